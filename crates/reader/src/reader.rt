@@ -1,0 +1,10 @@
+ghost use Prim.Native.Nat.{_≤_};
+ghost use Rattle.reader.specs.Sound.{count-in};
+use crate::standing::Standing;
+
+// Reads bytes one by one. It is one value, changed in place, and allocates nothing.
+#[derive(Clone, Copy)]
+pub struct Reader {
+    pub(crate) standing: Standing,
+    ghost sound: { count-in standing ≤ 16 },
+}
