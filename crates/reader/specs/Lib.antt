@@ -6,3 +6,7 @@ pub mod Requests
 pub mod Laws
 pub mod Sound
 pub mod Meaning
+pub mod Classes
+pub mod Items
+pub mod Performs
+pub mod Walks

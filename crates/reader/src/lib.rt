@@ -6,9 +6,13 @@
 // `Reader::step` reads one byte and `Reader::read` a slice, wherever the bytes were cut before.
 // `Reader::until_request` tells how many bytes go up to a request for a reply.
 // `Items` cuts a slice into items, each a part of it; `count_items` walks to the end.
+mod cutting;
 pub mod function;
+pub mod item;
+mod numbers;
 pub mod parameters;
 pub mod reader;
-pub mod standing;
-mod numbers;
 mod reading;
+pub mod standing;
+
+pub use cutting::count_items;
