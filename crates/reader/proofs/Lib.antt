@@ -1,3 +1,14 @@
 pub mod Listed
 pub mod Parts
 pub mod Forms
+pub mod Strings
+pub mod Agree
+pub mod Endings
+pub mod Sequences
+pub mod Grammar
+pub mod Walk
+pub mod Whole
+pub mod First
+pub mod Only
+pub mod Standings
+pub mod Stopping

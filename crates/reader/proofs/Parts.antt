@@ -26,3 +26,12 @@ standing-more s xs i h = rw (add-one, take-suc xs i 0) (standing-parts s (take i
 
 pub performed-more : (s : Standing) (xs : List ℕ) (i : ℕ) → i < length xs → performed s (take (i + 1) xs) ≡ performed s (take i xs) ++ step (standing-after s (take i xs)) (getD xs i 0) .performs
 performed-more s xs i h = rw (add-one, take-suc xs i 0, performed-parts s (take i xs) (getD xs i 0 ∷ [])) (ap (λ (l : List Function). performed s (take i xs) ++ l) (append-nil _))
+
+-- one turn of a loop that reads byte by byte
+pub turn-standing : (s t t′ : Standing) (xs : List ℕ) (i : ℕ) → i < length xs → t ≡ standing-after s (take i xs) → t′ ≡ step t (getD xs i 0) .standing → t′ ≡ standing-after s (take (i + 1) xs)
+turn-standing s t t′ xs i h e f = f ∙ ap (λ (z : Standing). step z (getD xs i 0) .standing) e ∙ sym (standing-more s xs i h)
+
+pub turn-performed : (fs : List Function) (s t : Standing) (xs : List ℕ) (i n : ℕ) → i < length xs → t ≡ standing-after s (take i xs) → n ≡ length (performed s (take i xs)) → fs ≡ step t (getD xs i 0) .performs → n + length fs ≡ length (performed s (take (i + 1) xs))
+turn-performed fs s t xs i n h e k f =
+    let same : fs ≡ step (standing-after s (take i xs)) (getD xs i 0) .performs = f ∙ ap (λ (z : Standing). step z (getD xs i 0) .performs) e in
+    rw (k, same) (sym (ap length (performed-more s xs i h) ∙ length-append (performed s (take i xs)) _))

@@ -22,6 +22,14 @@ pub data Standing : Type 0 where
   -- in an SOS string, and whether ESC came last
   in-sos : Bool → Standing
 
+abbrev pub is-at-rest : Standing → Bool
+is-at-rest rest = true
+is-at-rest (escape between) = false
+is-at-rest (in-parameters ps) = false
+is-at-rest (in-intermediates ps) = false
+is-at-rest in-string = false
+is-at-rest (in-sos escaped) = false
+
 -- what a byte leads to, and the functions that it completes
 pub record Outcome : Type 0 where
   pub standing : Standing

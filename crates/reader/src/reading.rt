@@ -3,7 +3,8 @@ ghost use Prim.Native.Nat.{ℕ, _≤_, _<_, _+_};
 ghost use mathlib.Core.Path.{_≡_};
 ghost use lib.ListN.{length};
 ghost use Rattle.reader.specs.Steps.{rest, step as steps, at-rest, resting, sequence-final, standing-after, performed};
-ghost use Rattle.reader.specs.Sound.{count-in};
+ghost use Rattle.reader.specs.Requests.{is-report, any-requests, until-request};
+ghost use Rattle.reader.specs.Laws.{Reads-in-parts, Reads-numbers, Reads-reset, Standings-differ, Stops-at-request};
 ghost use Rattle.std.specs.declared.option.Option.the-variants.{Some};
 ghost use Rattle.reader.specs.Meaning.{parameters-in, standing-of, functions-of};
 use crate::function::Completed;
@@ -84,6 +85,45 @@ impl Reader {
         }
     }
 
+    // Reads bytes, and answers how many functions they perform.
+    pub fn read(&mut self, bytes: &[u8]) -> usize
+        ensures standing { λ _. ⌜ standing-of (now (self .exit) .standing) ≡ standing-after (standing-of (now (self .entry) .standing)) (now (bytes .entry)) ⌝ }
+        ensures performs { λ r. ⌜ r ≡ length (performed (standing-of (now (self .entry) .standing)) (now (bytes .entry))) ⌝ }
+        ensures parts { λ _. ⌜ Reads-in-parts ⌝ }
+        ensures numbers { λ _. ⌜ Reads-numbers ⌝ }
+        ensures reset { λ _. ⌜ Reads-reset ⌝ }
+        ensures canonical { λ _. ⌜ Standings-differ ⌝ }
+    {
+        let mut count = 0;
+        for byte in bytes {
+            if let Some(_) = self.step(*byte).function {
+                count += 1;
+            }
+        }
+        count
+    }
+
+    // How many of the bytes go up to and including the first that requests a reply; all where none does.
+    pub fn until_request(&self, bytes: &[u8]) -> usize
+        ensures answer { λ r. ⌜ r ≡ until-request (standing-of (now (self .entry) .standing)) (now (bytes .entry)) ⌝ }
+        ensures stops { λ _. ⌜ Stops-at-request ⌝ }
+    {
+        let mut reader = *self;
+        for (i, byte) in bytes.iter().enumerate() {
+            if requests_reply(reader.step(*byte)) {
+                return i + 1;
+            }
+        }
+        bytes.len()
+    }
+
+    // Where the reader stands.
+    pub fn standing(&self) -> Standing
+        ensures { λ r. ⌜ r ≡ now (self .entry) .standing ⌝ }
+    {
+        self.standing
+    }
+
     fn at_rest(&mut self, byte: u8) -> Completed
         ensures standing { λ _. ⌜ standing-of (now (self .exit) .standing) ≡ at-rest byte .standing ⌝ }
         ensures completes { λ r. ⌜ functions-of r ≡ at-rest byte .performs ⌝ }
@@ -141,5 +181,28 @@ fn finished(parameters: Option<Parameters>, space: bool, final_byte: u8) -> Comp
             final_byte,
         }),
         None => NOTHING,
+    }
+}
+
+// DSR with 5 or 6: a report that is owed.
+fn requests_reply(completed: Completed) -> bool
+    ensures { λ r. ⌜ r ≡ any-requests (functions-of completed) ⌝ }
+{
+    match completed.function {
+        Some(Function::Sequence {
+            parameters,
+            space: false,
+            final_byte: 0x6E,
+        }) => is_report(parameters.listed()),
+        _ => false,
+    }
+}
+
+fn is_report(parameters: &[Option<u16>]) -> bool
+    ensures { λ r. ⌜ r ≡ is-report (now (parameters .entry)) ⌝ }
+{
+    match parameters {
+        [Some(5 | 6)] => true,
+        _ => false,
     }
 }
