@@ -65,6 +65,7 @@ each-opener P p q r s p′ q′ r′ s′ k c o sp =
     spelled : (n : ℕ) → P (n ∷ []) → P (0x1B ∷ (n - 64) ∷ []) → Spells n c → P c
     spelled n x y (inl e) = subst P (sym e) x
     spelled n x y (inr e) = subst P (sym e) y
+
     one : (n : ℕ) → P (n ∷ []) → P (0x1B ∷ (n - 64) ∷ []) → k ≡ n → P c
     one n x y e = spelled n x y (subst (λ (j : ℕ). Spells j c) e sp)
 

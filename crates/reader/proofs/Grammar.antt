@@ -46,12 +46,15 @@ short-performs f h unfit =
   where
     P : Bool → Type 0
     P t = cond t (at-rest (f + 64)) (cond (eqb f 0x63) (ends reset) (to rest)) .performs ≡ cond t (control-performs (f + 64)) (cond (eqb f 0x63) (reset ∷ []) [])
+
     last : (t : Bool) → cond t (ends reset) (to rest) .performs ≡ cond t (reset ∷ []) []
     last true = refl
     last false = refl
+
     by : (t : Bool) → among 0x40 0x5F f ≡ t → P t
     by true e = lone-performs (f + 64) (lone-above f e unfit)
     by false e = last (eqb f 0x63)
+
     chosen : P (among 0x40 0x5F f)
     chosen = by (among 0x40 0x5F f) refl
 

@@ -55,7 +55,6 @@ too-many (x ∷ xs) (suc n) e h =
     let long : 16 < length ((x ∷ take n xs) ++ None ∷ []) = simp length-append (omega (arith, length-take-le n xs (omega arith))) in
     sym (cond-false _ _ _ (lt-leb _ 16 long))
 
-
 -- to take more than there is, is to take all
 pub take-capped : {X : Type 0} (xs : List X) (n m : ℕ) → m ≡ min n (length xs) → take m xs ≡ take n xs
 take-capped xs n m e =

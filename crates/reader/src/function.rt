@@ -1,6 +1,14 @@
 // What bytes perform.
 use crate::parameters::Parameters;
 
+// A control sequence within the bounds; `space` where one 20 stood before the final byte.
+#[derive(Clone, Copy)]
+pub struct Sequence {
+    pub parameters: Parameters,
+    pub space: bool,
+    pub final_byte: u8,
+}
+
 #[derive(Clone, Copy)]
 pub enum Function {
     Graphic(u8),
@@ -8,12 +16,7 @@ pub enum Function {
     Control(u8),
     // RIS
     Reset,
-    // a control sequence within the bounds; `space` where one 20 stood before the final byte
-    Sequence {
-        parameters: Parameters,
-        space: bool,
-        final_byte: u8,
-    },
+    Sequence(Sequence),
 }
 
 // What one byte has completed. A struct, so that a byte may come to complete more than one thing.

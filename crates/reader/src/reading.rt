@@ -9,6 +9,7 @@ ghost use Rattle.std.specs.declared.option.Option.the-variants.{Some};
 ghost use Rattle.reader.specs.Meaning.{parameters-in, standing-of, functions-of};
 use crate::function::Completed;
 use crate::function::Function;
+use crate::function::Sequence;
 use crate::numbers::read_parameter;
 use crate::parameters::Parameters;
 use crate::reader::Reader;
@@ -31,13 +32,25 @@ impl Reader {
         ensures completes { λ r. ⌜ functions-of r ≡ steps (standing-of (now (self .entry) .standing)) byte .performs ⌝ }
     {
         match (self.standing, byte) {
-            (Standing::Escape { intermediates: false }, 0x40..=0x5F) => self.at_rest(byte + 64),
-            (Standing::Escape { intermediates: false }, 0x63) => {
+            (
+                Standing::Escape {
+                    intermediates: false,
+                },
+                0x40..=0x5F,
+            ) => self.at_rest(byte + 64),
+            (
+                Standing::Escape {
+                    intermediates: false,
+                },
+                0x63,
+            ) => {
                 self.standing = Standing::Rest;
                 completed(Function::Reset)
             }
             (Standing::Escape { .. }, 0x20..=0x2F) => {
-                self.standing = Standing::Escape { intermediates: true };
+                self.standing = Standing::Escape {
+                    intermediates: true,
+                };
                 NOTHING
             }
             (Standing::Escape { .. }, 0x30..=0x7E) => {
@@ -139,7 +152,9 @@ impl Reader {
         match byte {
             0x20..=0x7E | 0xA0..=0xFF => completed(Function::Graphic(byte)),
             0x1B => {
-                self.standing = Standing::Escape { intermediates: false };
+                self.standing = Standing::Escape {
+                    intermediates: false,
+                };
                 NOTHING
             }
             0x90 | 0x9D | 0x9E | 0x9F => {
@@ -175,11 +190,11 @@ fn finished(parameters: Option<Parameters>, space: bool, final_byte: u8) -> Comp
     ensures { λ r. ⌜ functions-of r ≡ sequence-final (parameters-in parameters) space «final_byte» .performs ⌝ }
 {
     match parameters {
-        Some(parameters) => completed(Function::Sequence {
+        Some(parameters) => completed(Function::Sequence(Sequence {
             parameters,
             space,
             final_byte,
-        }),
+        })),
         None => NOTHING,
     }
 }
@@ -189,11 +204,15 @@ fn requests_reply(completed: Completed) -> bool
     ensures { λ r. ⌜ r ≡ any-requests (functions-of completed) ⌝ }
 {
     match completed.function {
-        Some(Function::Sequence {
-            parameters,
-            space: false,
-            final_byte: 0x6E,
-        }) => is_report(parameters.listed()),
+        Some(
+            Function::Sequence(
+                Sequence {
+                    parameters,
+                    space: false,
+                    final_byte: 0x6E,
+                },
+            ),
+        ) => is_report(parameters.listed()),
         _ => false,
     }
 }
