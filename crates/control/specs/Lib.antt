@@ -1,0 +1,4 @@
+pub mod Renditions
+pub mod Tables
+pub mod Selecting
+pub mod Decoding
