@@ -1,0 +1,14 @@
+pub mod Wiped
+pub mod Places
+pub mod Listed
+pub mod Moduled
+pub mod Replaced
+pub mod Seen
+pub mod Framed
+pub mod Runs
+pub mod Windowed
+pub mod Copied
+pub mod Shifted
+pub mod Cleared
+pub mod Lenders
+pub mod Beneath

@@ -1,0 +1,11 @@
+pub mod Grids
+pub mod Screens
+pub mod Places
+pub mod Memories
+pub mod Listed
+pub mod Moduled
+pub mod Rectangles
+pub mod Windows
+pub mod Lendings
+pub mod Shifts
+pub mod Clears
