@@ -62,7 +62,7 @@ escape-ends f h =
     let noti : isIntermediate f ≡ false = grind (arith, tells) in
     standing-in (cond-false (isIntermediate f) _ _ noti ∙ cond-true (endsEscape f) _ _ h)
 
-lone-above : (f : ℕ) → among 0x40 0x5F f ≡ true → isBeginning (f + 64) ≡ false → isLone (f + 64) ≡ true
+pub lone-above : (f : ℕ) → among 0x40 0x5F f ≡ true → isBeginning (f + 64) ≡ false → isLone (f + 64) ≡ true
 lone-above f h unfit = grind (arith, tells)
 
 escape-ends-alone : (f : ℕ) → endsEscape f ≡ true → isBeginning (f + 64) ≡ false → step (escape false) f .standing ≡ rest

@@ -21,7 +21,7 @@ use Rattle.reader.proofs.Parts.{performed-parts}
 use Rattle.reader.proofs.Strings.{reads-numbers}
 use Rattle.reader.proofs.Agree.{csi-leads, each-opener, opener-leads, sos-leads, sos-body, first-between}
 use Rattle.reader.proofs.Sequences.{quiet-step, quiet-csi, sequence-performed}
-use Rattle.reader.proofs.Endings.{string-within, sos-within, opens-sos}
+use Rattle.reader.proofs.Endings.{lone-above, string-within, sos-within, opens-sos}
 
 text-performs : (x : List ℕ) → AllOf isGraphic x → performed rest x ≡ map graphic x
 unfolding at-rest
@@ -34,9 +34,6 @@ lone-performs b h = grind (arith, tells)
 
 one-performs : (b : ℕ) → isLone b ≡ true → performed rest (b ∷ []) ≡ control-performs b
 one-performs b h = append-nil _ ∙ lone-performs b h
-
-lone-above : (f : ℕ) → among 0x40 0x5F f ≡ true → isBeginning (f + 64) ≡ false → isLone (f + 64) ≡ true
-lone-above f h unfit = grind (arith, tells)
 
 -- an escape with nothing between
 short-performs : (f : ℕ) → endsEscape f ≡ true → isBeginning (f + 64) ≡ false → step (escape false) f .performs ≡ escape-performs [] f

@@ -12,3 +12,5 @@ pub mod First
 pub mod Only
 pub mod Standings
 pub mod Stopping
+pub mod Tells
+pub mod Tabled

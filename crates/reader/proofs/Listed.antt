@@ -1,17 +1,13 @@
 -- Parameters held in an array, as a list.
-use Prim.Native.Nat.{ℕ, zero, suc, _+_, _-_, _≤_, _<_, min}
-use mathlib.Core.Path.{_≡_, refl, sym, ap, subst, _∙_}
-use mathlib.Core.Bool.{Bool, true, false, cond}
+use Prim.Native.Nat.{ℕ, zero, suc, _+_, _-_, _≤_, _<_}
+use mathlib.Core.Path.{_≡_, refl, sym, ap, _∙_}
 use mathlib.Core.List.{List, [], _∷_, _++_}
 use native.Mathlib.Omega.{arith}
 use native.Mathlib.Nat.{le-of-suc-le-suc, not-suc-le-zero}
 use native.Mathlib.Numerals.{add-one}
-use lib.Dec.{leb}
 use lib.ListN.{length, take, set, getD, length-append}
-use lib.Seq.{take-suc-set, take-all, length-take-le}
-use Rattle.std.proofs.shelf.Tests.{le-leb, lt-leb, cond-true, cond-false, cases-lt}
-use mathlib.Core.Logic.{⊎-elim}
-use Rattle.std.specs.declared.option.Option.{Option}
+use lib.Seq.{take-suc-set, length-take-le}
+use Rattle.std.proofs.shelf.Tests.{le-leb, lt-leb, cond-true, cond-false}
 use Rattle.std.specs.declared.option.Option.the-variants.{Some, None}
 use Rattle.reader.specs.Functions.{Parameter}
 use Rattle.reader.specs.Steps.{grown, with-digit, with-separator, bounded}
@@ -54,11 +50,3 @@ too-many [] (suc n) e h = absurd (not-suc-le-zero h)
 too-many (x ∷ xs) (suc n) e h =
     let long : 16 < length ((x ∷ take n xs) ++ None ∷ []) = simp length-append (omega (arith, length-take-le n xs (omega arith))) in
     sym (cond-false _ _ _ (lt-leb _ 16 long))
-
--- to take more than there is, is to take all
-pub take-capped : {X : Type 0} (xs : List X) (n m : ℕ) → m ≡ min n (length xs) → take m xs ≡ take n xs
-take-capped xs n m e =
-    ⊎-elim
-    (λ k. let low : m ≡ n = omega arith in ap (λ i. take i xs) low)
-    (λ k. take-all m xs (omega arith) ∙ sym (take-all n xs (omega arith)))
-    (cases-lt n (length xs))

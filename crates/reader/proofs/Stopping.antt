@@ -81,17 +81,23 @@ request-by : (s : Standing) (b : ℕ) (bs : List ℕ) (t : Bool) → any-request
 unfolding until-request until
 request-by s b bs t h = ap (until s b bs) h
 
+pub request-here : (s : Standing) (b : ℕ) (bs : List ℕ) → any-requests (step s b .performs) ≡ true → until-request s (b ∷ bs) ≡ 1
+unfolding until
+request-here s b bs h = request-by s b bs true h
+
+pub request-later : (s : Standing) (b : ℕ) (bs : List ℕ) → any-requests (step s b .performs) ≡ false → until-request s (b ∷ bs) ≡ suc (until-request (step s b .standing) bs)
+unfolding until
+request-later s b bs h = request-by s b bs false h
+
 -- what is left of the bytes stops where all of them do
 module _ (n i : ℕ) (s : Standing) (xs : List ℕ) (h : i < length xs) (left : n ≡ i + until-request s (drop i xs)) where
   pub stops-here : (t : Bool) → any-requests (step s (getD xs i 0) .performs) ≡ t → t ≡ true → i + 1 ≡ n
-  unfolding until
   stops-here t e there =
-      sym (left ∙ ap (λ (l : List ℕ). i + until-request s l) (drop-cons xs i 0 h) ∙ ap (λ (k : ℕ). i + k) (request-by s (getD xs i 0) (drop (suc i) xs) true (e ∙ there)))
+      sym (left ∙ ap (λ (l : List ℕ). i + until-request s l) (drop-cons xs i 0 h) ∙ ap (λ (k : ℕ). i + k) (request-here s (getD xs i 0) (drop (suc i) xs) (e ∙ there)))
 
   pub goes-on : (s′ : Standing) → s′ ≡ step s (getD xs i 0) .standing → any-requests (step s (getD xs i 0) .performs) ≡ false → n ≡ (i + 1) + until-request s′ (drop (i + 1) xs)
-  unfolding until
   goes-on s′ e none =
-      let one = left ∙ ap (λ (l : List ℕ). i + until-request s l) (drop-cons xs i 0 h) ∙ ap (λ (k : ℕ). i + k) (request-by s (getD xs i 0) (drop (suc i) xs) false none) in
+      let one = left ∙ ap (λ (l : List ℕ). i + until-request s l) (drop-cons xs i 0 h) ∙ ap (λ (k : ℕ). i + k) (request-later s (getD xs i 0) (drop (suc i) xs) none) in
       let same : until-request s′ (drop (i + 1) xs) ≡ until-request (step s (getD xs i 0) .standing) (drop (suc i) xs) = λ j. until-request (e j) (drop (add-one i j) xs) in
       omega (arith, one, same)
 

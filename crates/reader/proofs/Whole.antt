@@ -14,46 +14,46 @@ use Rattle.reader.specs.Functions.{Function}
 use Rattle.reader.specs.Steps.{Standing, rest, is-at-rest, standing-after, performed}
 use Rattle.reader.specs.Items.{Form}
 use Rattle.reader.specs.Walks.{Handed, spelling}
-use Rattle.reader.specs.Performs.{Piece, Cut, item-performs, cut-performs, Cuts-perform, is-rest, unfinished, Rest-is-unfinished}
+use Rattle.reader.specs.Performs.{Part, Cut, item-performs, cut-performs, Cuts-perform, is-rest, unfinished, Rest-is-unfinished}
 use Rattle.reader.proofs.Parts.{standing-parts, performed-parts}
 use Rattle.reader.proofs.Endings.{Like-rest, behind-item, rest-unrested}
 use Rattle.reader.proofs.Grammar.{items-perform}
 use Rattle.reader.proofs.Walk.{item-some}
 
-abbrev pub piece-of : Item → Piece
-piece-of i = record { kind = i .kind; place = i .place; bytes = spelling i }
+abbrev pub part-of : Item → Part
+part-of i = record { kind = i .kind; place = i .place; bytes = spelling i }
 
 drop-all : (bs : List ℕ) → drop (length bs) bs ≡ []
 drop-all [] = refl
 drop-all (b ∷ bs) = drop-all bs
 
 -- the items from one place of the bytes to another, each where the one before it ends
-abbrev pub Walked : List ℕ → ℕ → List Piece → ℕ → Type 0
+abbrev pub Walked : List ℕ → ℕ → List Part → ℕ → Type 0
 Walked bs from [] to = from ≡ to
 Walked bs from (p ∷ ps) to =
     (p .place ≡ from) × (p .bytes ++ drop (from + length (p .bytes)) bs ≡ drop from bs) × Form (p .kind) (p .bytes) (drop (from + length (p .bytes)) bs) × Walked bs (from + length (p .bytes)) ps to
 
-walked-more : (bs : List ℕ) (from : ℕ) (ps : List Piece) (to on : ℕ) (i : Item) → Walked bs from ps to → Handed bs to on i → Walked bs from (ps ++ piece-of i ∷ []) on
+walked-more : (bs : List ℕ) (from : ℕ) (ps : List Part) (to on : ℕ) (i : Item) → Walked bs from ps to → Handed bs to on i → Walked bs from (ps ++ part-of i ∷ []) on
 walked-more bs from [] to on i w h =
     let e : from + length (spelling i) ≡ on = ap (λ (n : ℕ). n + length (spelling i)) w ∙ sym (h .on) in
     (h .place ∙ sym w, ap (λ (n : ℕ). spelling i ++ drop n bs) e ∙ h .part ∙ ap (λ (n : ℕ). drop n bs) (sym w), subst (λ (n : ℕ). Form (i .kind) (spelling i) (drop n bs)) (sym e) (h .form), e)
 walked-more bs from (p ∷ ps) to on i w h = (w .0, w .1, w .2, walked-more bs (from + length (p .bytes)) ps to on i (w .3) h)
 
-cut-from : (bs : List ℕ) (from : ℕ) (ps : List Piece) → Walked bs from ps (length bs) → Cut from ps (drop from bs)
+cut-from : (bs : List ℕ) (from : ℕ) (ps : List Part) → Walked bs from ps (length bs) → Cut from ps (drop from bs)
 cut-from bs from [] w = ap (λ (n : ℕ). drop n bs) w ∙ drop-all bs
 cut-from bs from (p ∷ ps) w = (w .0, drop (from + length (p .bytes)) bs, sym (w .1), w .2, cut-from bs (from + length (p .bytes)) ps (w .3))
 
 -- a walk that came to its end has cut all the bytes
-pub walked-all : (bs : List ℕ) (ps : List Piece) → Walked bs 0 ps (length bs) → Cut 0 ps bs
+pub walked-all : (bs : List ℕ) (ps : List Part) → Walked bs 0 ps (length bs) → Cut 0 ps bs
 walked-all bs ps w = cut-from bs 0 ps w
 
 -- so many items so far, at most one a byte
 abbrev pub Sofar : List ℕ → ℕ → ℕ → Type 0
-Sofar bs n to = (ps : List Piece) × (length ps ≡ n) × Walked bs 0 ps to × (n ≤ to)
+Sofar bs n to = (ps : List Part) × (length ps ≡ n) × Walked bs 0 ps to × (n ≤ to)
 
 pub sofar-more : (bs : List ℕ) (n to on : ℕ) (i : Item) → Sofar bs n to → Handed bs to on i → Sofar bs (n + 1) on
 sofar-more bs n to on i (ps, e, w, le) h =
-    (ps ++ piece-of i ∷ [], length-append ps _ ∙ ap (λ (m : ℕ). m + 1) e, walked-more bs 0 ps to on i w h, omega (arith, h .on, h .some))
+    (ps ++ part-of i ∷ [], length-append ps _ ∙ ap (λ (m : ℕ). m + 1) e, walked-more bs 0 ps to on i w h, omega (arith, h .on, h .some))
 
 pub handed-at : {bs cs : List ℕ} {from to : ℕ} {i : Item} → bs ≡ cs → Handed bs from to i → Handed cs from to i
 handed-at {from = from} {to = to} {i = i} e h = subst (λ (z : List ℕ). Handed z from to i) e h
@@ -93,7 +93,7 @@ last-item Broken x f = (λ _. behind-item Broken x [] f refl .leads, λ _. refl)
 last-item Rest x f = (λ e. absurd (both-ways true e refl), λ e. absurd (not-at-rest _ (rest-unrested x [] f) e))
 
 -- nothing follows an unfinished item
-only-last : (k : Kind) (x r : List ℕ) (q : Piece) (rs : List ℕ) → Form k x r → r ≡ q .bytes ++ rs → Form (q .kind) (q .bytes) rs → is-rest k ≡ false
+only-last : (k : Kind) (x r : List ℕ) (q : Part) (rs : List ℕ) → Form k x r → r ≡ q .bytes ++ rs → Form (q .kind) (q .bytes) rs → is-rest k ≡ false
 only-last Text x r q rs f e g = refl
 only-last Control x r q rs f e g = refl
 only-last Escape x r q rs f e g = refl

@@ -10,3 +10,5 @@ pub mod Classes
 pub mod Items
 pub mod Performs
 pub mod Walks
+pub mod Telling
+pub mod Table

@@ -34,17 +34,17 @@ item-performs Broken x r f = []
 item-performs Rest x r f = []
 
 -- an item by its kind, place and bytes
-pub record Piece : Type 0 where
+pub record Part : Type 0 where
   pub kind : Kind
   pub place : ℕ
   pub bytes : List ℕ
 
--- the pieces, the first at the place, are the items of the bytes: they are all of the bytes in order, each of its kind's grammar
-abbrev pub Cut : ℕ → List Piece → List ℕ → Type 0
+-- the parts, the first at the place, are the items of the bytes: they are all of the bytes in order, each of its kind's grammar
+abbrev pub Cut : ℕ → List Part → List ℕ → Type 0
 Cut at [] bs = bs ≡ []
 Cut at (p ∷ ps) bs = (p .place ≡ at) × (r : List ℕ) × (bs ≡ p .bytes ++ r) × Form (p .kind) (p .bytes) r × Cut (at + length (p .bytes)) ps r
 
-abbrev pub cut-performs : (at : ℕ) (ps : List Piece) (bs : List ℕ) → Cut at ps bs → List Function
+abbrev pub cut-performs : (at : ℕ) (ps : List Part) (bs : List ℕ) → Cut at ps bs → List Function
 cut-performs at [] bs c = []
 cut-performs at (p ∷ ps) bs (place, r, whole, form, others) = item-performs (p .kind) (p .bytes) r form ++ cut-performs (at + length (p .bytes)) ps r others
 
@@ -58,7 +58,7 @@ is-rest String = false
 is-rest Broken = false
 is-rest Rest = true
 
-abbrev pub unfinished : List Piece → Bool
+abbrev pub unfinished : List Part → Bool
 unfinished [] = false
 unfinished (p ∷ []) = is-rest (p .kind)
 unfinished (p ∷ q ∷ ps) = unfinished (q ∷ ps)
@@ -69,12 +69,12 @@ Items-perform = (k : Kind) (x r : List ℕ) (f : Form k x r) → performed rest 
 
 -- what the items of bytes perform is what the single steps perform on all the bytes
 abbrev pub Cuts-perform : Type 0
-Cuts-perform = (at : ℕ) (ps : List Piece) (bs : List ℕ) (c : Cut at ps bs) → performed rest bs ≡ cut-performs at ps bs c
+Cuts-perform = (at : ℕ) (ps : List Part) (bs : List ℕ) (c : Cut at ps bs) → performed rest bs ≡ cut-performs at ps bs c
 
 -- bytes are cut into items in one way only
 abbrev pub Cut-is-only : Type 0
-Cut-is-only = (at : ℕ) (ps qs : List Piece) (bs : List ℕ) → Cut at ps bs → Cut at qs bs → ps ≡ qs
+Cut-is-only = (at : ℕ) (ps qs : List Part) (bs : List ℕ) → Cut at ps bs → Cut at qs bs → ps ≡ qs
 
 -- a last item is unfinished exactly where the reader does not end at rest
 abbrev pub Rest-is-unfinished : Type 0
-Rest-is-unfinished = (at : ℕ) (ps : List Piece) (bs : List ℕ) → Cut at ps bs → (unfinished ps ≡ false) ↔ (standing-after rest bs ≡ rest)
+Rest-is-unfinished = (at : ℕ) (ps : List Part) (bs : List ℕ) → Cut at ps bs → (unfinished ps ≡ false) ↔ (standing-after rest bs ≡ rest)

@@ -9,7 +9,7 @@ ghost use Rattle.reader.specs.Bytes.{AllOf, Stops};
 ghost use Rattle.reader.specs.Items.{Spells, begins};
 ghost use Rattle.reader.specs.Classes.{member};
 ghost use Rattle.reader.specs.Walks.{Ended, Handed, Leaves, Leads, Opens, opensMore};
-ghost use Rattle.reader.specs.Performs.{Piece, Cut, Items-perform, Cuts-perform, Cut-is-only, Rest-is-unfinished};
+ghost use Rattle.reader.specs.Performs.{Part, Cut, Items-perform, Cuts-perform, Cut-is-only, Rest-is-unfinished};
 use crate::item::Item;
 use crate::item::Items;
 use crate::item::Kind;
@@ -192,7 +192,7 @@ impl<'a> Items<'a> {
 
 // How many items the bytes have.
 pub fn count_items(bytes: &[u8]) -> usize
-    ensures items { λ r. ⌜ ((ps : List Piece) × (length ps ≡ r) × Cut 0 ps (now (bytes .entry))) ⌝ }
+    ensures items { λ r. ⌜ ((ps : List Part) × (length ps ≡ r) × Cut 0 ps (now (bytes .entry))) ⌝ }
     ensures only { λ _. ⌜ Cut-is-only ⌝ }
     ensures performs { λ _. ⌜ Cuts-perform ⌝ }
     ensures unfinished { λ _. ⌜ Rest-is-unfinished ⌝ }

@@ -27,6 +27,13 @@ pub struct Item<'a> {
     pub bytes: &'a [u8],
 }
 
+// What a string item tells: its opener, by its 8-bit code, and what stands between that and ST.
+#[derive(Clone, Copy)]
+pub struct ControlString<'a> {
+    pub opener: u8,
+    pub body: &'a [u8],
+}
+
 // Walks along lent bytes, and hands out their items one by one.
 #[derive(Drop)]
 pub struct Items<'a> {

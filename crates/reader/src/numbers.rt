@@ -36,8 +36,11 @@ impl Parameters {
         ensures { λ r. ⌜ now r ≡ listed (now (self .entry)) ⌝ }
     {
         let numbers: &[Option<u16>] = &self.numbers;
-        let end = self.count.min(numbers.len());
-        &numbers[..end]
+        if self.count < numbers.len() {
+            &numbers[..self.count]
+        } else {
+            numbers
+        }
     }
 
     fn after(self, byte: u8) -> Option<Parameters>

@@ -1,4 +1,5 @@
 ghost use Prim.Native.Nat.{_≤_};
+ghost use mathlib.Core.Path.{_≡_};
 ghost use Rattle.reader.specs.Sound.{count-in};
 use crate::standing::Standing;
 
@@ -7,4 +8,13 @@ use crate::standing::Standing;
 pub struct Reader {
     pub(crate) standing: Standing,
     ghost sound: { count-in standing ≤ 16 },
+}
+
+impl Reader {
+    // Where the reader stands.
+    pub fn standing(&self) -> Standing
+        ensures { λ r. ⌜ r ≡ now (self .entry) .standing ⌝ }
+    {
+        self.standing
+    }
 }

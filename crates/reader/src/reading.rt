@@ -5,6 +5,7 @@ ghost use lib.ListN.{length};
 ghost use Rattle.reader.specs.Steps.{rest, step as steps, at-rest, resting, sequence-final, standing-after, performed};
 ghost use Rattle.reader.specs.Requests.{is-report, any-requests, until-request};
 ghost use Rattle.reader.specs.Laws.{Reads-in-parts, Reads-numbers, Reads-reset, Standings-differ, Stops-at-request};
+ghost use Rattle.reader.specs.Table.{Bytes-by-standing};
 ghost use Rattle.std.specs.declared.option.Option.the-variants.{Some};
 ghost use Rattle.reader.specs.Meaning.{parameters-in, standing-of, functions-of};
 use crate::function::Completed;
@@ -106,6 +107,7 @@ impl Reader {
         ensures numbers { λ _. ⌜ Reads-numbers ⌝ }
         ensures reset { λ _. ⌜ Reads-reset ⌝ }
         ensures canonical { λ _. ⌜ Standings-differ ⌝ }
+        ensures table { λ _. ⌜ Bytes-by-standing ⌝ }
     {
         let mut count = 0;
         for byte in bytes {
@@ -128,13 +130,6 @@ impl Reader {
             }
         }
         bytes.len()
-    }
-
-    // Where the reader stands.
-    pub fn standing(&self) -> Standing
-        ensures { λ r. ⌜ r ≡ now (self .entry) .standing ⌝ }
-    {
-        self.standing
     }
 
     fn at_rest(&mut self, byte: u8) -> Completed

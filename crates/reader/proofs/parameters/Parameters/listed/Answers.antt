@@ -1,6 +1,7 @@
 use borrow.Author.Needs.{needs}
-use Rattle.reader.proofs.Listed.{take-capped}
+use mathlib.Core.Path.{sym}
+use lib.Seq.{take-all}
 use Rattle.reader.proofs.parameters.Parameters.listed.Needs as need
 
-pub returns : need.returns
-returns c = take-capped (c .args .self .now .numbers) (c .args .self .now .count) _ (search needs)
+pub returns-else-self-numbers : need.returns-else-self-numbers
+returns-else-self-numbers c = sym (take-all _ (c .args .self .now .numbers) (search needs))

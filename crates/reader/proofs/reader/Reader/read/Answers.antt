@@ -8,6 +8,7 @@ use Rattle.reader.specs.Meaning.{standing-of, functions-of}
 use Rattle.reader.proofs.Parts.{reads-in-parts, turn-standing, turn-performed}
 use Rattle.reader.proofs.Strings.{reads-numbers}
 use Rattle.reader.proofs.Standings.{reads-reset, standings-differ}
+use Rattle.reader.proofs.Tabled.{bytes-by-standing}
 use Rattle.reader.proofs.reader.Reader.read.Needs as need
 use Rattle.reader.proofs.reader.Reader.read.Needs.{in-Some, in-rest}
 
@@ -32,4 +33,5 @@ returns c =
       numbers = reads-numbers;
       reset = reads-reset;
       canonical = standings-differ;
+      table = bytes-by-standing;
     }
