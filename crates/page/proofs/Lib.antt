@@ -1,0 +1,10 @@
+pub mod Flags
+pub mod Shapes
+pub mod Every
+pub mod Kept
+pub mod Owing
+pub mod Steps
+pub mod Stepping
+pub mod Deliveries
+pub mod BytesAct
+pub mod Parts
