@@ -1,0 +1,11 @@
+pub mod Writing
+pub mod Writable
+pub mod Renditions
+pub mod Pictures
+pub mod Calls
+pub mod Tape
+pub mod Writes
+pub mod Reads
+pub mod Draws
+pub mod Views
+pub mod Pens

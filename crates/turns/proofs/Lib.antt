@@ -1,0 +1,13 @@
+pub mod Done
+pub mod Blind
+pub mod SoFar
+pub mod Restoring
+pub mod Showing
+pub mod Touched
+pub mod Kept
+pub mod Cased
+pub mod Copied
+pub mod Agreeing
+pub mod Compared
+pub mod Quiet
+pub mod Ran
