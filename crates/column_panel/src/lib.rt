@@ -3,6 +3,9 @@
 // It stores the cells column by column on a slice that is lent, of any number of lines and columns for which the slice has room
 // (the bounds of other kinds are not its own). A maker gives what the panel shows, a proof that it is sound, and the four calls;
 // the shift, the window and all that is written for any panel then hold of it too.
+
+#![tactic(auto)]
+
 ghost use Rattle.std.specs.Prelude.{◌≡◌, ℕ, ◌+◌, ◌-◌, ◌*◌, ◌/◌, ◌%◌, ◌<◌, ◌≤◌, length};
 ghost use Rattle.panel.specs.Screens.{put_on, wipe_on};
 ghost use Rattle.column_panel.specs.Columned.{stored_at, columned, column_shows, column_sound};

@@ -3,6 +3,9 @@
 // With no argument it delivers a recorded list to a page, part by part, and shows the panel after each. `show` does so with the
 // bytes of a file, on a panel of any kind and size; `items` tells how the bytes of a file are read;
 // `panel` makes calls on a panel and shows the memory behind it. Each command has a module.
+
+#![tactic(auto)]
+
 mod cable;
 mod call;
 mod consoles;

@@ -5,6 +5,9 @@
 // gives no function an effect on a page: it knows neither pages nor panels.
 // `Rendition` has nine aspects; its number stands for it in a cell, one number for each rendition.
 // `Rendition::select` is SGR, and `Modes::with_all` is SM and RM, both on plain values.
+
+#![tactic(auto)]
+
 mod decoding;
 pub mod function;
 pub mod modes;

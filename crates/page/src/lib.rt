@@ -5,6 +5,9 @@
 // `Page::start` begins on any kind of panel, `Page::deliver` lets bytes act on it through the first
 // that requests a reply, `Page::view` hands out what it holds, and `Page::settle` says that the reply
 // was sent. It writes no bytes: replies and pictures are made above it.
+
+#![tactic(auto)]
+
 mod acting;
 mod cells;
 mod delivering;

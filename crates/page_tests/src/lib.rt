@@ -2,6 +2,9 @@
 // text that says what it must be.
 //
 // Nothing but tests is here. They stand apart from `page`, so that the page need not be proved anew with them.
+
+#![tactic(auto)]
+
 #[cfg(test)]
 mod cuts;
 #[cfg(test)]

@@ -8,6 +8,9 @@
 // to memory, and say of each element what it holds afterwards.
 //
 // This crate knows no bytes that are read, no control function and no page. `docs/PANELS.md` has the layouts, drawn.
+
+#![tactic(auto)]
+
 ghost use Rattle.std.specs.Prelude.{◌≡◌};
 ghost use Rattle.refusal.specs.Table.{answer};
 ghost use Rattle.refusal.specs.declared.Refusal.TheVariants.{OutsidePanel};

@@ -1,6 +1,9 @@
 // Tests of panels and refusals against stored layouts: a crate of its own, so that the crates tested are proved once.
 //
 // A text stands for the codes of a panel in reading order, with a point for the erased cell.
+
+#![tactic(auto)]
+
 use panel::{Cell, ERASED, Panel, Rectangle};
 use refusal::Refusal;
 

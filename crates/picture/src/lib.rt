@@ -12,6 +12,9 @@
 // one; page and panel stay as they are.
 //
 // It gives no function an effect and reads no bytes: those are the page's and the reader's.
+
+#![tactic(auto)]
+
 mod cells;
 mod draw;
 mod foreign;

@@ -8,6 +8,9 @@
 // `Items` cuts a slice into items, each a part of it; `count_items` walks to the end.
 // `Item::sequence` tells the parameters, space and final byte of a sequence item that is within the bounds,
 // `Item::string` the opener and body of a string item.
+
+#![tactic(auto)]
+
 mod cutting;
 pub mod function;
 pub mod item;

@@ -1,4 +1,7 @@
 // Stored examples of the reader.
+
+#![tactic(auto)]
+
 #[cfg(test)]
 mod tests {
     use reader::function::{Completed, Function};

@@ -3,6 +3,9 @@
 // A refused call changes nothing. Its refusal tells a number, a word, the layer that found it and a place: nothing, the length
 // that was needed, or a line and column. `specs/Table.antt` has the table, case by case; contracts of other crates are stated
 // with its `answer`. This crate knows no panel, no page and no bytes.
+
+#![tactic(auto)]
+
 ghost use Rattle.std.specs.Prelude.{◌≡◌, Some};
 ghost use Rattle.refusal.specs.Table.{number, layer, place};
 ghost use Rattle.refusal.specs.Words.{word, layer_word, place_text, text};

@@ -3,6 +3,9 @@
 // `speed deliver KIND FILE TIMES` delivers the bytes of a file as often as asked; `speed picture KIND FILE TIMES` delivers them once
 // and draws as many pictures. It is run under an instruction counter: what two passes cost, less what one costs, is a pass. At the
 // end it prints a hash of the characters shown, so that two programs that should show the same can be compared.
+
+#![tactic(auto)]
+
 mod passes;
 mod words;
 

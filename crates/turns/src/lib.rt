@@ -1,4 +1,7 @@
 // Lists of turns: deliveries, replies and pictures, on one page or on two.
+
+#![tactic(auto)]
+
 mod buffers;
 pub mod comparing;
 pub mod copying;
