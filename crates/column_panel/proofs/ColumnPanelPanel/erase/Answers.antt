@@ -5,8 +5,8 @@ use Rattle.panel.proofs.Places.{located_run}
 use Rattle.column_panel.specs.Columned.{column_shows}
 use Rattle.column_panel.proofs.ColumnPanelPanel.erase.Goals as goal
 
-pub erase-from-requires : goal.erase-from-requires
-erase-from-requires c = (located_run (column_shows c.args.self.now).grid _ _ _ _ _ c.size.ensures c.in-Some.ensures).low
+pub erase_from-requires : goal.erase_from-requires
+erase_from-requires c = (located_run (column_shows c.args.self.now).grid _ _ _ _ _ c.size.ensures c.in-Some.ensures).low
 
 pub returns-in-Some : goal.returns-in-Some
 returns-in-Some c =
@@ -14,5 +14,5 @@ returns-in-Some c =
     let a = located_run s.grid _ _ _ _ _ c.size.ensures c.in-Some.ensures in
     record {
       says = sym (cond-true _ _ _ a.test);
-      after = c.erase-from.ensures ∙ ap (λ k. wipe_on s k c.args.count) (sym a.is) ∙ ap (with_grid s) (sym (cond-true _ _ _ a.test));
+      after = c.erase_from.ensures ∙ ap (λ k. wipe_on s k c.args.count) (sym a.is) ∙ ap (with_grid s) (sym (cond-true _ _ _ a.test));
     }

@@ -9,6 +9,6 @@ pub returns : goal.returns
 returns c =
     let h = c.args.lines in
     let w = c.args.columns in
-    let stops : take w c.first-stops.result ≡ map first_stop (range_with_len 0 w) = ap (take w) c.first-stops.ensures ∙ take-map-range_with_len first_stop 0 132 w (omega arith) in
+    let stops : take w c.first_stops.result ≡ map first_stop (range_with_len 0 w) = ap (take w) c.first_stops.ensures ∙ take-map-range_with_len first_stop 0 132 w (omega arith) in
     let none : take h (replicate 64 false) ≡ replicate h false = take-replicate h 64 false (omega arith) in
     cc

@@ -11,9 +11,9 @@ loop-k-preserved c =
     let k = c.loop-k.k in
     let i = c.loop-k.invariant in
     let h : k < length xs = omega arith in
-    let b = c.is-first-stop.result in (
+    let b = c.is_first_stop.result in (
       simp length-set i.0,
-      take_more_set xs k b h ∙ ap (λ l. l ++ (b ∷ [])) i.1 ∙ ap (λ b. map first_stop (range_with_len 0 k) ++ (b ∷ [])) c.is-first-stop.ensures ∙ sym (map-range_with_len_more first_stop 0 k k (omega arith)),
+      take_more_set xs k b h ∙ ap (λ l. l ++ (b ∷ [])) i.1 ∙ ap (λ b. map first_stop (range_with_len 0 k) ++ (b ∷ [])) c.is_first_stop.ensures ∙ sym (map-range_with_len_more first_stop 0 k k (omega arith)),
     )
 
 pub returns : goal.returns

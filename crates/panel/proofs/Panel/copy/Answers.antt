@@ -1,7 +1,7 @@
 use Rattle.panel.proofs.Panel.copy.Goals as goal
 
-pub copy-cells-requires : goal.copy-cells-requires
-copy-cells-requires g c κs = λ h. h
+pub copy_cells-requires : goal.copy_cells-requires
+copy_cells-requires g c κs = λ h. h
 
 pub returns : goal.returns
-returns g c = c.copy-cells.ensures
+returns g c = c.copy_cells.ensures

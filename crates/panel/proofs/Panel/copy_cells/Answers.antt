@@ -10,8 +10,8 @@ loop-i-init g c =
     let from = c.args.from in
     let to = c.args.to in
     let n = c.args.count in
-    let fp = true_part s.grid _ from n c.size-size.ensures c.if-not-has-part.ensures in
-    let tp = true_part s.grid _ to n c.size-size.ensures c.if-not-has-part-2.ensures in
+    let fp = true_part s.grid _ from n c.size-size.ensures c.if-not-has_part.ensures in
+    let tp = true_part s.grid _ to n c.size-size.ensures c.if-not-has_part-2.ensures in
     let at = index s.grid to.line to.column in
     copied_none s (g.Self.Panel.sound c.args.self.now) from.line from.column to.line to.column n fp tp (in_run at 0) (run_none at)
 
@@ -24,8 +24,8 @@ loop-i-preserved g c =
     let to = c.args.to in
     let n = c.args.count in
     let i = c.loop-i.i in
-    let fp = true_part s.grid _ from n c.size-size.ensures c.if-not-has-part.ensures in
-    let tp = true_part s.grid _ to n c.size-size.ensures c.if-not-has-part-2.ensures in
+    let fp = true_part s.grid _ from n c.size-size.ensures c.if-not-has_part.ensures in
+    let tp = true_part s.grid _ to n c.size-size.ensures c.if-not-has_part-2.ensures in
     let at = index s.grid to.line to.column in
     let both = copied_on s h from.line from.column to.line to.column n fp tp (in_run at i) i now (omega arith) c.loop-i.invariant in
     copied_next s h from.line from.column to.line to.column n fp tp (in_run at i) (in_run at (i + 1)) i now (g.Self.Panel.shows c.set.new.self) (omega arith)
@@ -38,8 +38,8 @@ loop-i-else-to-from-init g c =
     let from = c.args.from in
     let to = c.args.to in
     let n = c.args.count in
-    let fp = true_part s.grid _ from n c.size-size.ensures c.if-not-has-part.ensures in
-    let tp = true_part s.grid _ to n c.size-size.ensures c.if-not-has-part-2.ensures in
+    let fp = true_part s.grid _ from n c.size-size.ensures c.if-not-has_part.ensures in
+    let tp = true_part s.grid _ to n c.size-size.ensures c.if-not-has_part-2.ensures in
     let at = index s.grid to.line to.column in
     copied_none s (g.Self.Panel.sound c.args.self.now) from.line from.column to.line to.column n fp tp (tail_run at n n) (tail_none at n)
 
@@ -52,8 +52,8 @@ loop-i-else-to-from-preserved g c =
     let to = c.args.to in
     let n = c.args.count in
     let i = c.loop-i-else-to-from.i in
-    let fp = true_part s.grid _ from n c.size-size.ensures c.if-not-has-part.ensures in
-    let tp = true_part s.grid _ to n c.size-size.ensures c.if-not-has-part-2.ensures in
+    let fp = true_part s.grid _ from n c.size-size.ensures c.if-not-has_part.ensures in
+    let tp = true_part s.grid _ to n c.size-size.ensures c.if-not-has_part-2.ensures in
     let at = index s.grid to.line to.column in
     let both = copied_on s h from.line from.column to.line to.column n fp tp (tail_run at n i) (i - 1) now (omega arith) c.loop-i-else-to-from.invariant in
     copied_next s h from.line from.column to.line to.column n fp tp (tail_run at n i) (tail_run at n (i - 1)) (i - 1) now (g.Self.Panel.shows c.set-in-loop-i-else-to-from.new.self) (omega arith)

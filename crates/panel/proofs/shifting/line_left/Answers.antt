@@ -7,11 +7,11 @@ use Rattle.panel.proofs.shifting.line_left.Goals as goal
 pub returns-then-count-r : goal.returns-then-count-r
 returns-then-count-r g c =
     let s = g.P.Panel.shows c.args.panel.now in
-    c.erase-part.ensures
-    ∙ ap (λ z. wipe_on z (index z.grid c.args.line (c.args.r.left + (c.args.r.columns - c.args.count))) c.args.count) c.copy-part.ensures
+    c.erase_part.ensures
+    ∙ ap (λ z. wipe_on z (index z.grid c.args.line (c.args.r.left + (c.args.r.columns - c.args.count))) c.args.count) c.copy_part.ensures
     ∙ ap (with_grid s) (left_moved s.grid (g.P.Panel.sound c.args.panel.now) c.args.r c.args.count c.args.line c.requires (omega arith))
 
 pub returns-else-count-r : goal.returns-else-count-r
 returns-else-count-r g c =
     let s = g.P.Panel.shows c.args.panel.now in
-    c.erase-part-else-count-r.ensures ∙ ap (with_grid s) (left_cleared s.grid (g.P.Panel.sound c.args.panel.now) c.args.r c.args.count c.args.line c.requires (omega arith))
+    c.erase_part-else-count-r.ensures ∙ ap (with_grid s) (left_cleared s.grid (g.P.Panel.sound c.args.panel.now) c.args.r c.args.count c.args.line c.requires (omega arith))

@@ -11,7 +11,7 @@ pub returns-else-count-gt0 : goal.returns-else-count-gt0
 returns-else-count-gt0 g c =
     let s = g.P.Panel.shows c.args.panel.now in
     let r = c.args.r in
-    let t : inside s.grid.lines s.grid.columns r ≡ true = sym (c.if-not-is-inside.ensures ∙ ap (λ z. inside z.lines z.columns r) c.size.ensures) in
+    let t : inside s.grid.lines s.grid.columns r ≡ true = sym (c.if-not-is_inside.ensures ∙ ap (λ z. inside z.lines z.columns r) c.size.ensures) in
     let none : c.args.count ≡ 0 = omega (arith, c.if-count-gt0.false) in
     record {
       says = sym (cond-true _ _ _ t);

@@ -18,7 +18,7 @@ loop-i-preserved g c =
     let r = c.args.r in
     let i = c.loop-i.i in
     let line = r.top + (i - 1) in
-    c.shift-line.ensures ∙ ap (λ z. with_grid z (line_shifted r c.args.direction c.args.count line z.grid)) c.loop-i.invariant
+    c.shift_line.ensures ∙ ap (λ z. with_grid z (line_shifted r c.args.direction c.args.count line z.grid)) c.loop-i.invariant
     ∙ ap (with_grid s) (lines_next s.grid (g.P.Panel.sound c.args.panel.now) r c.requires.0.fit c.args.direction c.args.count (λ l. leb (r.top + i) l) (λ l. leb line l) line
     (lt-leb (r.top + i) line (omega arith)) (le-leb line line (omega arith)) (λ l ne. above_next r.top i l (omega arith) ne)
     (λ k. lt-leb (r.top + i) (source c.args.direction c.args.count line k).0 (let q = source_above c.args.direction c.args.count line k c.requires.1 in omega arith)))

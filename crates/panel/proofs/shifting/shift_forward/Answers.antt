@@ -18,7 +18,7 @@ loop-i-preserved g c =
     let r = c.args.r in
     let i = c.loop-i.i in
     let line = r.top + i in
-    c.shift-line.ensures ∙ ap (λ z. with_grid z (line_shifted r c.args.direction c.args.count line z.grid)) c.loop-i.invariant
+    c.shift_line.ensures ∙ ap (λ z. with_grid z (line_shifted r c.args.direction c.args.count line z.grid)) c.loop-i.invariant
     ∙ ap (with_grid s) (lines_next s.grid (g.P.Panel.sound c.args.panel.now) r c.requires.0.fit c.args.direction c.args.count (λ l. ltb l line) (λ l. ltb l (r.top + (i + 1))) line
     (le-ltb line line (omega arith)) (lt-ltb line (r.top + (i + 1)) (omega arith)) (λ l ne. below_next r.top i l ne)
     (λ k. le-ltb _ line (source_below c.args.direction c.args.count line k c.requires.1)))

@@ -6,7 +6,7 @@ use Rattle.picture.proofs.cells.put_rendition.Goals as goal
 
 pub returns-in-Some : goal.returns-in-Some
 returns-in-Some c =
-    draws_as (draws_one (sgr c.in-Some.rendition) c.put-sgr.ensures)
+    draws_as (draws_one (sgr c.in-Some.rendition) c.put_sgr.ensures)
     (ap (λ r. sgr r ∷ []) (has_rendition c.args.number c.in-Some.rendition c.requires c.in-Some.ensures.answer))
 
 pub returns-in-None : goal.returns-in-None

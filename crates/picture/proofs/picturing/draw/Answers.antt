@@ -3,11 +3,11 @@ use Rattle.picture.proofs.Foreigners.{first_within}
 use Rattle.picture.proofs.PictureLengths.{picture_small, fitting}
 use Rattle.picture.proofs.picturing.draw.Goals as goal
 
-pub spot-at-spot-requires : goal.spot-at-spot-requires
-spot-at-spot-requires g c = first_within (g.P.Panel.shows c.args.panel.now).grid.cells c.in-Some.k (sym c.in-Some.ensures)
+pub spot_at-spot-requires : goal.spot_at-spot-requires
+spot_at-spot-requires g c = first_within (g.P.Panel.shows c.args.panel.now).grid.cells c.in-Some.k (sym c.in-Some.ensures)
 
-pub write-front-requires : goal.write-front-requires
-write-front-requires g c =
+pub write_front-requires : goal.write_front-requires
+write_front-requires g c =
     let s = (g.P.Panel.shows c.args.panel.now).grid in
     record {
       can = (sym c.in-None.ensures, (fitting c.args.view.now s c.requires).columns);

@@ -3,11 +3,11 @@ use Rattle.reader.specs.Bytes.{isBody}
 use Rattle.picture.proofs.Everies.{every_on, every_stop, every_end}
 use Rattle.picture.proofs.ranges.is_body.Goals as goal
 
-pub returns-then-not-is-body-byte : goal.returns-then-not-is-body-byte
-returns-then-not-is-body-byte c = every_stop isBody _ _ 0 c.loop-b-test.true (sym c.if-not-is-body-byte.ensures) c.loop-b.invariant
+pub returns-then-not-is_body_byte : goal.returns-then-not-is_body_byte
+returns-then-not-is_body_byte c = every_stop isBody _ _ 0 c.loop-b-test.true (sym c.if-not-is_body_byte.ensures) c.loop-b.invariant
 
 pub loop-b-preserved : goal.loop-b-preserved
-loop-b-preserved c = every_on isBody _ _ 0 c.loop-b-test.true (sym c.if-not-is-body-byte.ensures) c.loop-b.invariant
+loop-b-preserved c = every_on isBody _ _ 0 c.loop-b-test.true (sym c.if-not-is_body_byte.ensures) c.loop-b.invariant
 
 pub returns : goal.returns
 returns c = every_end isBody _ _ c.loop-b-test.false c.loop-b.invariant

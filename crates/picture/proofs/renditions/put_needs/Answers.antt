@@ -3,8 +3,8 @@ use Rattle.picture.proofs.renditions.put_needs.Goals as goal
 
 pub returns : goal.returns
 returns c =
-    adds_both (adds_as c.put-need.ensures c.intensity-needs.ensures) (adds_both (adds_as c.put-need-2.ensures c.flag-needs.ensures)
-    (adds_both (adds_as c.put-need-3.ensures c.single-needs.ensures) (adds_both (adds_as c.put-need-4.ensures c.blink-needs.ensures)
-    (adds_both (adds_as c.put-need-5.ensures c.flag-needs-2.ensures) (adds_both (adds_as c.put-need-6.ensures c.flag-needs-3.ensures)
-    (adds_both (adds_as c.put-need-7.ensures c.flag-needs-4.ensures) (adds_both (adds_as c.put-need-8.ensures c.double-needs.ensures)
-    (adds_both (adds_as c.put-need-9.ensures c.colour-needs.ensures) (adds_as c.put-need-10.ensures c.colour-needs-2.ensures)))))))))
+    adds_both (adds_as c.put_need.ensures c.intensity_needs.ensures) (adds_both (adds_as c.put_need-2.ensures c.flag_needs.ensures)
+    (adds_both (adds_as c.put_need-3.ensures c.single_needs.ensures) (adds_both (adds_as c.put_need-4.ensures c.blink_needs.ensures)
+    (adds_both (adds_as c.put_need-5.ensures c.flag_needs-2.ensures) (adds_both (adds_as c.put_need-6.ensures c.flag_needs-3.ensures)
+    (adds_both (adds_as c.put_need-7.ensures c.flag_needs-4.ensures) (adds_both (adds_as c.put_need-8.ensures c.double_needs.ensures)
+    (adds_both (adds_as c.put_need-9.ensures c.colour_needs.ensures) (adds_as c.put_need-10.ensures c.colour_needs-2.ensures)))))))))

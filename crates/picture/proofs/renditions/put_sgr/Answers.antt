@@ -4,4 +4,4 @@ use Rattle.picture.proofs.renditions.put_sgr.Goals as goal
 
 pub returns : goal.returns
 unfolding written digits
-returns c = then c.put.ensures (then c.put-2.ensures (then c.put-3.ensures (then c.put-needs.ensures.lays c.put-4.ensures)))
+returns c = then c.put.ensures (then c.put-2.ensures (then c.put-3.ensures (then c.put_needs.ensures.lays c.put-4.ensures)))

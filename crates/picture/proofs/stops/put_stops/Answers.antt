@@ -10,7 +10,7 @@ loop-i-init c = leaves_all
 pub loop-i-preserved : goal.loop-i-preserved
 loop-i-preserved c =
     leaves_on c.loop-i.invariant (stops_more c.args.along c.args.flags.now c.args.count c.loop-i.i (omega arith))
-    (draws_as c.put-stop-if.ensures (ap (stop_if c.args.along (c.loop-i.i + 1)) c.is-set.ensures))
+    (draws_as c.put_stop_if.ensures (ap (stop_if c.args.along (c.loop-i.i + 1)) c.is_set.ensures))
 
 pub returns : goal.returns
 returns c = leaves_end c.loop-i.invariant (stops_all c.args.along c.args.flags.now c.args.count c.loop-i.i (omega arith))

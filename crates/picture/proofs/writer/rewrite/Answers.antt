@@ -4,7 +4,7 @@ use Rattle.picture.proofs.writer.rewrite.Goals as goal
 
 pub returns-in-Some : goal.returns-in-Some
 returns-in-Some c = record {
-  writes = told_again _ _ _ c.in-Some.s.space c.in-Some.s.final_byte c.listed.ensures c.in-Some.ensures.tells c.write-sequence.ensures.writes;
+  writes = told_again _ _ _ c.in-Some.s.space c.in-Some.s.final_byte c.listed.ensures c.in-Some.ensures.tells c.write_sequence.ensures.writes;
   again = sequence_rewrites;
   tells = c.sequence.ensures.grammar;
   reads = sequence_reads;

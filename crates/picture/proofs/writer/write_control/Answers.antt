@@ -4,11 +4,11 @@ use Rattle.picture.proofs.Fronts.{out_of_range, in_range}
 use Rattle.picture.proofs.Readings.{reads_in_a_row, control_reads}
 use Rattle.picture.proofs.writer.write_control.Goals as goal
 
-pub returns-then-not-is-control : goal.returns-then-not-is-control
-returns-then-not-is-control c = record { writes = out_of_range _ _ _ (sym c.if-not-is-control.ensures); reads = control_reads; row = reads_in_a_row }
+pub returns-then-not-is_control : goal.returns-then-not-is_control
+returns-then-not-is_control c = record { writes = out_of_range _ _ _ (sym c.if-not-is_control.ensures); reads = control_reads; row = reads_in_a_row }
 
-pub write-front-requires : goal.write-front-requires
-write-front-requires c = record { can = tt; small = control_small c.args.byte }
+pub write_front-requires : goal.write_front-requires
+write_front-requires c = record { can = tt; small = control_small c.args.byte }
 
 pub returns : goal.returns
-returns c = record { writes = in_range _ _ (sym c.if-not-is-control.ensures) c.write-front.ensures; reads = control_reads; row = reads_in_a_row }
+returns c = record { writes = in_range _ _ (sym c.if-not-is_control.ensures) c.write_front.ensures; reads = control_reads; row = reads_in_a_row }

@@ -3,11 +3,11 @@ use Rattle.picture.proofs.Fronts.{out_of_range, in_range}
 use Rattle.picture.proofs.Readings.{reads_in_a_row, text_reads}
 use Rattle.picture.proofs.writer.write_text.Goals as goal
 
-pub returns-then-not-is-text : goal.returns-then-not-is-text
-returns-then-not-is-text c = record { writes = out_of_range _ _ _ (sym c.if-not-is-text.ensures); reads = text_reads; row = reads_in_a_row }
+pub returns-then-not-is_text : goal.returns-then-not-is_text
+returns-then-not-is_text c = record { writes = out_of_range _ _ _ (sym c.if-not-is_text.ensures); reads = text_reads; row = reads_in_a_row }
 
-pub write-front-requires : goal.write-front-requires
-write-front-requires c = record { can = tt; small = (omega arith) }
+pub write_front-requires : goal.write_front-requires
+write_front-requires c = record { can = tt; small = (omega arith) }
 
 pub returns : goal.returns
-returns c = record { writes = in_range _ _ (sym c.if-not-is-text.ensures) c.write-front.ensures; reads = text_reads; row = reads_in_a_row }
+returns c = record { writes = in_range _ _ (sym c.if-not-is_text.ensures) c.write_front.ensures; reads = text_reads; row = reads_in_a_row }

@@ -11,7 +11,7 @@ loop-n-preserved c = (omega arith, all_more (member c.args.class) c.args.bytes.n
 pub returns : goal.returns
 returns c =
     let P = member c.args.class in
-    let parts = c.split-at.ensures in
+    let parts = c.split_at.ensures in
     let stops : Stops P (drop c.loop-n.n c.args.bytes.now) =
     elim c.loop-n-test.branch [
       | then-loop-n-test+else-belongs w ↦ stops_here P c.args.bytes.now c.loop-n.n w.loop-n-test.true (sym w.if-belongs.ensures)

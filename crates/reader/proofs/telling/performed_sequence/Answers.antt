@@ -25,4 +25,4 @@ returns-in-Some-Some c =
 pub returns : goal.returns
 returns c =
     let whole = take_all _ c.args.bytes.now c.loop-byte-test.false in
-    c.as-sequence.ensures ∙ ap only_sequence (c.loop-byte.invariant.1 ∙ ap (performed rest) whole)
+    c.as_sequence.ensures ∙ ap only_sequence (c.loop-byte.invariant.1 ∙ ap (performed rest) whole)

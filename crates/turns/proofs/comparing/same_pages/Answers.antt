@@ -5,29 +5,29 @@ use Rattle.turns.proofs.Restoring.{pictures_tell_pages}
 use Rattle.turns.proofs.Compared.{other_size, first_refused, second_refused, compared}
 use Rattle.turns.proofs.comparing.same_pages.Goals as goal
 
-pub returns-in-err-of-one-size : goal.returns-in-err-of-one-size
-returns-in-err-of-one-size g c =
+pub returns-in-err-of_one_size : goal.returns-in-err-of_one_size
+returns-in-err-of_one_size g c =
     record {
-      compares = other_size _ _ c.args.first.now c.args.second.now c.from-residual.result c.in-err-of-one-size.field-0.0 c.from-residual.ensures.1 c.in-err-of-one-size.ensures;
+      compares = other_size _ _ c.args.first.now c.args.second.now c.from-residual.result c.in-err-of_one_size.field-0.0 c.from-residual.ensures.1 c.in-err-of_one_size.ensures;
       tell = pictures_tell_pages;
     }
 
 pub returns-in-err-n : goal.returns-in-err-n
 returns-in-err-n g c =
     record {
-      compares = first_refused _ _ c.args.first.now c.args.second.now c.in-ok-of-one-size.ensures c.from-residual-in-err-n.result c.in-err-n.field-0.0 _ c.from-residual-in-err-n.ensures.1 c.in-err-n.ensures;
+      compares = first_refused _ _ c.args.first.now c.args.second.now c.in-ok-of_one_size.ensures c.from-residual-in-err-n.result c.in-err-n.field-0.0 _ c.from-residual-in-err-n.ensures.1 c.in-err-n.ensures;
       tell = pictures_tell_pages;
     }
 
 pub returns-in-err-m : goal.returns-in-err-m
 returns-in-err-m g c =
     record {
-      compares = second_refused _ _ c.args.first.now c.args.second.now c.in-ok-of-one-size.ensures c.in-ok-n.n _ c.in-ok-n.ensures c.from-residual-in-err-m.result c.in-err-m.field-0.0 _ c.from-residual-in-err-m.ensures.1 c.in-err-m.ensures;
+      compares = second_refused _ _ c.args.first.now c.args.second.now c.in-ok-of_one_size.ensures c.in-ok-n.n _ c.in-ok-n.ensures c.from-residual-in-err-m.result c.in-err-m.field-0.0 _ c.from-residual-in-err-m.ensures.1 c.in-err-m.ensures;
       tell = pictures_tell_pages;
     }
 
-pub equal-fronts-requires : goal.equal-fronts-requires
-equal-fronts-requires g c =
+pub equal_fronts-requires : goal.equal_fronts-requires
+equal_fronts-requires g c =
     let x = plain c.args.one.now (g.P.Panel.shows c.args.shown.now).grid in
     let y = plain c.args.other.now (g.Q.Panel.shows c.args.over.now).grid in
     let f = front_written c.in-ok-n.n c.in-ok-n.ensures (pictures_counted (length c.args.first.now) x) refl in
@@ -37,6 +37,6 @@ equal-fronts-requires g c =
 pub returns : goal.returns
 returns g c =
     record {
-      compares = compared _ _ c.args.first.now c.args.second.now c.in-ok-of-one-size.ensures c.in-ok-n.n _ c.in-ok-n.ensures c.equal-fronts.result c.in-ok-m.m _ c.is-admitted.ensures c.is-admitted-2.ensures c.in-ok-m.ensures c.equal-fronts.ensures;
+      compares = compared _ _ c.args.first.now c.args.second.now c.in-ok-of_one_size.ensures c.in-ok-n.n _ c.in-ok-n.ensures c.equal_fronts.result c.in-ok-m.m _ c.is_admitted.ensures c.is_admitted-2.ensures c.in-ok-m.ensures c.equal_fronts.ensures;
       tell = pictures_tell_pages;
     }

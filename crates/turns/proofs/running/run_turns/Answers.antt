@@ -20,9 +20,9 @@ returns-in-err-answer g c = record { ran = MatchResult-from_err c.from-residual-
 pub loop-turn-preserved : goal.loop-turn-preserved
 loop-turn-preserved g c =
     let i = c.loop-turn.invariant in (
-      ran_more _ (on_panel c.loop-turn.page (g.P.Panel.shows c.loop-turn.panel)) _ c.args.turns.now c.loop-turn.turn-index _ _ _ _ _ _ c.loop-turn-test.true (get_or_default c.args.turns.now c.loop-turn.turn-index _ _ c.loop-turn-test.true) i.0 c.in-ok-answer.ensures c.push-reserved.ensures.items,
-      omega (arith, c.push-reserved.ensures.len, i.1),
-      omega (arith, c.push-reserved.ensures.capacity, i.2),
+      ran_more _ (on_panel c.loop-turn.page (g.P.Panel.shows c.loop-turn.panel)) _ c.args.turns.now c.loop-turn.turn-index _ _ _ _ _ _ c.loop-turn-test.true (get_or_default c.args.turns.now c.loop-turn.turn-index _ _ c.loop-turn-test.true) i.0 c.in-ok-answer.ensures c.push_reserved.ensures.items,
+      omega (arith, c.push_reserved.ensures.len, i.1),
+      omega (arith, c.push_reserved.ensures.capacity, i.2),
     )
 
 pub returns : goal.returns

@@ -8,8 +8,8 @@ returns-in-Deliver g c = deliver_did (plain c.args.page.now (g.P.Panel.shows c.a
 
 pub returns-in-ok-buffer : goal.returns-in-ok-buffer
 returns-in-ok-buffer g c =
-    reply_did (plain c.args.page.now (g.P.Panel.shows c.args.panel.now).grid) c.args.next.now _ c.in-Reply.room (c.deref-mut.ensures.len ∙ c.in-ok-buffer.ensures.made.0) c.buffer-of.ensures.same c.in-Reply.is c.reply-kept.ensures
+    reply_did (plain c.args.page.now (g.P.Panel.shows c.args.panel.now).grid) c.args.next.now _ c.in-Reply.room (c.deref-mut.ensures.len ∙ c.in-ok-buffer.ensures.made.0) c.buffer_of.ensures.same c.in-Reply.is c.reply_kept.ensures
 
 pub returns-in-ok-buffer-2 : goal.returns-in-ok-buffer-2
 returns-in-ok-buffer-2 g c =
-    picture_did (plain c.args.page.now (g.P.Panel.shows c.args.panel.now).grid) c.args.next.now _ c.in-Picture.room (c.deref-mut-in-Picture.ensures.len ∙ c.in-ok-buffer-2.ensures.made.0) c.buffer-of-in-Picture.ensures.same c.in-Picture.is c.picture-kept.ensures
+    picture_did (plain c.args.page.now (g.P.Panel.shows c.args.panel.now).grid) c.args.next.now _ c.in-Picture.room (c.deref-mut-in-Picture.ensures.len ∙ c.in-ok-buffer-2.ensures.made.0) c.buffer_of-in-Picture.ensures.same c.in-Picture.is c.picture_kept.ensures

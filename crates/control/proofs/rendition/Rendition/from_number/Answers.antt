@@ -9,15 +9,15 @@ pub returns : goal.returns
 returns c =
     record {
       answer = made c.if-number-ge34992.false (λ j. record {
-        intensity = c.intensity-of.ensures j;
-        italic = c.flag-of.ensures j;
-        underline = c.underline-of.ensures j;
-        blink = c.blink-of.ensures j;
-        negative = c.flag-of-2.ensures j;
-        concealed = c.flag-of-3.ensures j;
-        crossed_out = c.flag-of-4.ensures j;
-        foreground = c.colour-of.ensures j;
-        background = c.colour-of-2.ensures j;
+        intensity = c.intensity_of.ensures j;
+        italic = c.flag_of.ensures j;
+        underline = c.underline_of.ensures j;
+        blink = c.blink_of.ensures j;
+        negative = c.flag_of-2.ensures j;
+        concealed = c.flag_of-3.ensures j;
+        crossed_out = c.flag_of-4.ensures j;
+        foreground = c.colour_of.ensures j;
+        background = c.colour_of-2.ensures j;
       });
       names = numbers_name_renditions;
     }

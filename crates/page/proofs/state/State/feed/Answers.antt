@@ -8,13 +8,13 @@ loop-i-init g c = going_none _ c.args.bytes.now c.requires.sits c.requires.free
 pub step-requires : goal.step-requires
 step-requires g c = c.loop-i.invariant.sits
 
-pub returns-then-is-some : goal.returns-then-is-some
-returns-then-is-some g c =
-    let s = going_stop c.loop-i.invariant c.loop-i-test.true _ refl _ c.step.ensures (sym c.if-is-some.ensures) in
+pub returns-then-is_some : goal.returns-then-is_some
+returns-then-is_some g c =
+    let s = going_stop c.loop-i.invariant c.loop-i-test.true _ refl _ c.step.ensures (sym c.if-is_some.ensures) in
     record { count = s.1; after = s.0 }
 
 pub loop-i-preserved : goal.loop-i-preserved
-loop-i-preserved g c = going_more c.loop-i.invariant c.loop-i-test.true _ refl _ c.step.ensures (sym c.if-is-some.ensures)
+loop-i-preserved g c = going_more c.loop-i.invariant c.loop-i-test.true _ refl _ c.step.ensures (sym c.if-is_some.ensures)
 
 pub returns : goal.returns
 returns g c =

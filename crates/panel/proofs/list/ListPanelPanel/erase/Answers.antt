@@ -5,8 +5,8 @@ use Rattle.panel.proofs.Places.{located_run}
 use Rattle.panel.proofs.Listed.{list_room, list_wiped, with_memory}
 use Rattle.panel.proofs.list.ListPanelPanel.erase.Goals as goal
 
-pub fill-run-requires : goal.fill-run-requires
-fill-run-requires c =
+pub fill_run-requires : goal.fill_run-requires
+fill_run-requires c =
     let p = c.args.self.now in
     list_room p _ _ _ _ (located_run (list_shows p).grid _ _ _ _ _ c.size.ensures c.in-Some.ensures)
 
@@ -14,4 +14,4 @@ pub returns-in-Some : goal.returns-in-Some
 returns-in-Some c =
     let p = c.args.self.now in
     let a = located_run (list_shows p).grid _ _ _ _ _ c.size.ensures c.in-Some.ensures in
-    record { says = sym (cond-true _ _ _ a.test); after = ap (with_memory p) c.fill-run.ensures ∙ list_wiped p _ _ _ _ a }
+    record { says = sym (cond-true _ _ _ a.test); after = ap (with_memory p) c.fill_run.ensures ∙ list_wiped p _ _ _ _ a }

@@ -5,8 +5,8 @@ use Rattle.panel.specs.Windows.{windowed}
 use Rattle.panel.proofs.Places.{located_run}
 use Rattle.panel.proofs.window.WindowPanel.erase.Goals as goal
 
-pub erase-from-requires : goal.erase-from-requires
-erase-from-requires g c =
+pub erase_from-requires : goal.erase_from-requires
+erase_from-requires g c =
     let w = c.args.self.now in
     (located_run (windowed (g.P.Panel.shows w.below) w.frame).grid _ _ _ _ _ c.size.ensures c.in-Some.ensures).low
 
@@ -17,5 +17,5 @@ returns-in-Some g c =
     let a = located_run s.grid _ _ _ _ _ c.size.ensures c.in-Some.ensures in
     record {
       says = sym (cond-true _ _ _ a.test);
-      after = c.erase-from.ensures ∙ ap (λ k. wipe_on s k c.args.count) (sym a.is) ∙ ap (with_grid s) (sym (cond-true _ _ _ a.test));
+      after = c.erase_from.ensures ∙ ap (λ k. wipe_on s k c.args.count) (sym a.is) ∙ ap (with_grid s) (sym (cond-true _ _ _ a.test));
     }

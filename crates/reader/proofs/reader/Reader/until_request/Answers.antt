@@ -8,11 +8,11 @@ loop-i-init c = sym (zero-add _)
 
 pub loop-i-preserved : goal.loop-i-preserved
 loop-i-preserved c =
-    goes_on _ _ _ c.args.bytes.now c.loop-i-test.true c.loop-i.invariant _ c.step.ensures.standing (sym (ap any_requests c.step.ensures.completes) ∙ sym c.if-requests-reply.ensures)
+    goes_on _ _ _ c.args.bytes.now c.loop-i-test.true c.loop-i.invariant _ c.step.ensures.standing (sym (ap any_requests c.step.ensures.completes) ∙ sym c.if-requests_reply.ensures)
 
-pub returns-then-requests-reply : goal.returns-then-requests-reply
-returns-then-requests-reply c = record {
-  answer = stops_here _ _ _ c.args.bytes.now c.loop-i-test.true c.loop-i.invariant _ (sym (ap any_requests c.step.ensures.completes)) (sym c.if-requests-reply.ensures);
+pub returns-then-requests_reply : goal.returns-then-requests_reply
+returns-then-requests_reply c = record {
+  answer = stops_here _ _ _ c.args.bytes.now c.loop-i-test.true c.loop-i.invariant _ (sym (ap any_requests c.step.ensures.completes)) (sym c.if-requests_reply.ensures);
   stops = stops_at_request;
 }
 
