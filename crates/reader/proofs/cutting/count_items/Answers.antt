@@ -13,7 +13,7 @@ pub returns : goal.returns
 returns c =
     let bytes = c.args.bytes.now in
     let i = c.loop-n.invariant in
-    let h = c.in-default.ensures in
+    let h = c.in_default.ensures in
     let at : c.loop-n.items.place ≡ length bytes = h.item.ends ∙ ap length i.0 in
     record {
       items = (i.1.0, i.1.1, walked_all bytes i.1.0 (subst (Walked bytes 0 i.1.0) at i.1.2));

@@ -20,4 +20,4 @@ pub loop-after-smaller : goal.loop-after-smaller
 loop-after-smaller c = search rules
 
 pub loop-after-preserved : goal.loop-after-preserved
-loop-after-preserved c = sofar_more _ _ _ _ c.loop-after.invariant (pattern_one c.loop-after.tail.now (search rules)) c.in-default.ensures c.in-default-after_control.ensures
+loop-after-preserved c = sofar_more _ _ _ _ c.loop-after.invariant (pattern_one c.loop-after.tail.now (search rules)) c.in_default.ensures c.in_default-after_control.ensures

@@ -22,4 +22,4 @@ returns-in-len1-up c =
     let two : get_or c.run.result.1.now 0 0 ≡ 27 → 1 < length c.run.result.1.now =
     elim c.in-len1-up·.branch [ then-tail-lt2+in_default· w ↦ λ e. search rules | else-tail-lt2 w ↦ λ e. search rules ]
     in
-    string_broken _ _ _ c.run.ensures.whole c.run.ensures.all c.run.ensures.stops c.in-default.ensures _ _ (pattern_one t some) (λ e. some_after t (two e))
+    string_broken _ _ _ c.run.ensures.whole c.run.ensures.all c.run.ensures.stops c.in_default.ensures _ _ (pattern_one t some) (λ e. some_after t (two e))

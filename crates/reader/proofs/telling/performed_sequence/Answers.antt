@@ -4,7 +4,7 @@ use Rattle.reader.specs.Telling.{only_sequence}
 use Rattle.reader.proofs.Parts.{turn_standing}
 use Rattle.reader.proofs.Tells.{told_same, told_first, told_none}
 use Rattle.reader.proofs.telling.performed_sequence.Goals as goal
-use Rattle.reader.proofs.telling.performed_sequence.Goals.{in-default-None, in-None-Some}
+use Rattle.reader.proofs.telling.performed_sequence.Goals.{in_default-None, in-None-Some}
 
 pub loop-byte-preserved : goal.loop-byte-preserved
 loop-byte-preserved c =
@@ -12,7 +12,7 @@ loop-byte-preserved c =
     let on = c.loop-byte-test.true in (
       turn_standing rest _ _ c.args.bytes.now _ on i.0 c.step.ensures.standing,
       elim c.match-step.branch [
-        | in-default-None w ↦ told_same _ _ _ _ c.args.bytes.now on i.0 i.1 c.step.ensures.completes _ w.in-default-None.is-1 w.told-is
+        | in_default-None w ↦ told_same _ _ _ _ c.args.bytes.now on i.0 i.1 c.step.ensures.completes _ w.in_default-None.is-1 w.told-is
         | in-None-Some w ↦ told_first _ _ _ _ c.args.bytes.now on i.0 i.1 c.step.ensures.completes _ _ w.in-None-Some.is-0 w.in-None-Some.is-1 w.told-is
       ],
     )

@@ -1,11 +1,11 @@
 use Rattle.reader.proofs.Tells.{unopened_parts, unclosed_parts}
 use Rattle.reader.proofs.telling.string_parts.Goals as goal
 
-pub returns-in-err-opener : goal.returns-in-err-opener
-returns-in-err-opener c = rw c.from-residual.ensures (unopened_parts _ c.in-err-opener.ensures)
+pub returns-in_err-opener : goal.returns-in_err-opener
+returns-in_err-opener c = rw c.from-residual.ensures (unopened_parts _ c.in_err-opener.ensures)
 
-pub returns-in-err-body : goal.returns-in-err-body
-returns-in-err-body c = rw c.from-residual-in-err-body.ensures (unclosed_parts _ _ _ c.in-ok-opener.ensures c.in-err-body.ensures)
+pub returns-in_err-body : goal.returns-in_err-body
+returns-in_err-body c = rw c.from-residual-in_err-body.ensures (unclosed_parts _ _ _ c.in_ok-opener.ensures c.in_err-body.ensures)
 
 pub returns : goal.returns
-returns c = (_, c.in-ok-opener.ensures, c.in-ok-body.ensures)
+returns c = (_, c.in_ok-opener.ensures, c.in_ok-body.ensures)

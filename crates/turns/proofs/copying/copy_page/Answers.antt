@@ -5,16 +5,16 @@ use Rattle.turns.proofs.Restoring.{picture_restores}
 use Rattle.turns.proofs.Copied.{takes, refused_size, refused_target, refused_picture, front_silent, copied}
 use Rattle.turns.proofs.copying.copy_page.Goals as goal
 
-pub returns-in-err-of_one_size : goal.returns-in-err-of_one_size
-returns-in-err-of_one_size g c = record { copies = refused_size _ _ c.args.buffer.now c.from-residual.result c.in-err-of_one_size.field-0.0 c.from-residual.ensures.1 c.in-err-of_one_size.ensures; restores = picture_restores }
+pub returns-in_err-of_one_size : goal.returns-in_err-of_one_size
+returns-in_err-of_one_size g c = record { copies = refused_size _ _ c.args.buffer.now c.from-residual.result c.in_err-of_one_size.field-0.0 c.from-residual.ensures.1 c.in_err-of_one_size.ensures; restores = picture_restores }
 
-pub returns-in-err-takes_picture : goal.returns-in-err-takes_picture
-returns-in-err-takes_picture g c = record { copies = refused_target _ _ c.args.buffer.now c.from-residual-in-err-takes_picture.result c.in-err-takes_picture.field-0.0 c.in-ok-of_one_size.ensures c.from-residual-in-err-takes_picture.ensures.1 c.in-err-takes_picture.ensures; restores = picture_restores }
+pub returns-in_err-takes_picture : goal.returns-in_err-takes_picture
+returns-in_err-takes_picture g c = record { copies = refused_target _ _ c.args.buffer.now c.from-residual-in_err-takes_picture.result c.in_err-takes_picture.field-0.0 c.in_ok-of_one_size.ensures c.from-residual-in_err-takes_picture.ensures.1 c.in_err-takes_picture.ensures; restores = picture_restores }
 
-pub returns-in-err-n : goal.returns-in-err-n
-returns-in-err-n g c =
+pub returns-in_err-n : goal.returns-in_err-n
+returns-in_err-n g c =
     record {
-      copies = refused_picture _ _ c.args.buffer.now c.in-ok-of_one_size.ensures c.in-ok-takes_picture.ensures c.from-residual-in-err-n.result c.in-err-n.field-0.0 _ c.from-residual-in-err-n.ensures.1 c.in-err-n.ensures;
+      copies = refused_picture _ _ c.args.buffer.now c.in_ok-of_one_size.ensures c.in_ok-takes_picture.ensures c.from-residual-in_err-n.result c.in_err-n.field-0.0 _ c.from-residual-in_err-n.ensures.1 c.in_err-n.ensures;
       restores = picture_restores;
     }
 
@@ -22,14 +22,14 @@ pub deliver_front-requires : goal.deliver_front-requires
 deliver_front-requires g c =
     let x = plain c.args.from.now (g.P.Panel.shows c.args.shown.now).grid in
     let y = on_panel c.args.to.now (g.Q.Panel.shows c.args.onto.now) in
-    let k = takes y.plain c.in-ok-takes_picture.ensures in
-    let d = c.in-ok-n.ensures in
-    let f = front_written c.in-ok-n.n d (pictures_counted (length c.args.buffer.now) x) refl in
+    let k = takes y.plain c.in_ok-takes_picture.ensures in
+    let d = c.in_ok-n.ensures in
+    let f = front_written c.in_ok-n.n d (pictures_counted (length c.args.buffer.now) x) refl in
     record {
       knows = k.knows;
       free = k.free;
       fits = omega (arith, f.fits, c.picture.auto.buffer);
-      quiet = front_silent x y c.args.buffer.now c.in-ok-of_one_size.ensures c.in-ok-takes_picture.ensures c.in-ok-n.n _ c.is_admitted.ensures c.is_admitted-2.ensures d;
+      quiet = front_silent x y c.args.buffer.now c.in_ok-of_one_size.ensures c.in_ok-takes_picture.ensures c.in_ok-n.n _ c.is_admitted.ensures c.is_admitted-2.ensures d;
     }
 
 pub returns : goal.returns
@@ -37,6 +37,6 @@ returns g c =
     let x = plain c.args.from.now (g.P.Panel.shows c.args.shown.now).grid in
     let y = on_panel c.args.to.now (g.Q.Panel.shows c.args.onto.now) in
     record {
-      copies = copied x y c.args.buffer.now c.in-ok-of_one_size.ensures c.in-ok-takes_picture.ensures c.in-ok-n.n _ c.is_admitted.ensures c.is_admitted-2.ensures c.in-ok-n.ensures _ c.deliver_front.ensures;
+      copies = copied x y c.args.buffer.now c.in_ok-of_one_size.ensures c.in_ok-takes_picture.ensures c.in_ok-n.n _ c.is_admitted.ensures c.is_admitted-2.ensures c.in_ok-n.ensures _ c.deliver_front.ensures;
       restores = picture_restores;
     }

@@ -8,19 +8,19 @@ use Rattle.turns.proofs.Cased.{cases_hold}
 use Rattle.turns.proofs.Ran.{none_ran, ran_none, some_ran, ran_more, ran_all}
 use Rattle.turns.proofs.running.run_turns.Goals as goal
 
-pub returns-in-err-answers : goal.returns-in-err-answers
-returns-in-err-answers g c = record { ran = MatchResult-from_err c.from-residual.result _ _ c.from-residual.ensures.0 (λ e. none_ran _ _); items = runs_show_items; foreign = never_foreign; cases = cases_hold }
+pub returns-in_err-answers : goal.returns-in_err-answers
+returns-in_err-answers g c = record { ran = MatchResult-from_err c.from-residual.result _ _ c.from-residual.ensures.0 (λ e. none_ran _ _); items = runs_show_items; foreign = never_foreign; cases = cases_hold }
 
 pub loop-turn-init : goal.loop-turn-init
-loop-turn-init g c = let m = c.in-ok-answers.ensures in (ran_none _ [] _ _ m.items c.new-written.ensures.items, omega (arith, m.len), m.capacity)
+loop-turn-init g c = let m = c.in_ok-answers.ensures in (ran_none _ [] _ _ m.items c.new-written.ensures.items, omega (arith, m.len), m.capacity)
 
-pub returns-in-err-answer : goal.returns-in-err-answer
-returns-in-err-answer g c = record { ran = MatchResult-from_err c.from-residual-in-err-answer.result _ _ c.from-residual-in-err-answer.ensures.0 (λ e. some_ran c.loop-turn.turn-index c.loop-turn.invariant.0 c.in-err-answer.ensures.0); items = runs_show_items; foreign = never_foreign; cases = cases_hold }
+pub returns-in_err-answer : goal.returns-in_err-answer
+returns-in_err-answer g c = record { ran = MatchResult-from_err c.from-residual-in_err-answer.result _ _ c.from-residual-in_err-answer.ensures.0 (λ e. some_ran c.loop-turn.turn-index c.loop-turn.invariant.0 c.in_err-answer.ensures.0); items = runs_show_items; foreign = never_foreign; cases = cases_hold }
 
 pub loop-turn-preserved : goal.loop-turn-preserved
 loop-turn-preserved g c =
     let i = c.loop-turn.invariant in (
-      ran_more _ (on_panel c.loop-turn.page (g.P.Panel.shows c.loop-turn.panel)) _ c.args.turns.now c.loop-turn.turn-index _ _ _ _ _ _ c.loop-turn-test.true (get_or_default c.args.turns.now c.loop-turn.turn-index _ _ c.loop-turn-test.true) i.0 c.in-ok-answer.ensures c.push_reserved.ensures.items,
+      ran_more _ (on_panel c.loop-turn.page (g.P.Panel.shows c.loop-turn.panel)) _ c.args.turns.now c.loop-turn.turn-index _ _ _ _ _ _ c.loop-turn-test.true (get_or_default c.args.turns.now c.loop-turn.turn-index _ _ c.loop-turn-test.true) i.0 c.in_ok-answer.ensures c.push_reserved.ensures.items,
       omega (arith, c.push_reserved.ensures.len, i.1),
       omega (arith, c.push_reserved.ensures.capacity, i.2),
     )

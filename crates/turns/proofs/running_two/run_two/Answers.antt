@@ -5,18 +5,18 @@ use Rattle.turns.proofs.Agreeing.{agree}
 use Rattle.turns.proofs.SoFar.{same_bytes_same_page}
 use Rattle.turns.proofs.running_two.run_two.Goals as goal
 
-pub returns-in-err-first : goal.returns-in-err-first
-returns-in-err-first g c = record { ran = MatchResult-from_err c.from-residual.result _ _ c.from-residual.ensures.0 (λ e. (c.in-err-first.ensures.ran, none_ran _ _)); same = same_bytes_same_page }
+pub returns-in_err-first : goal.returns-in_err-first
+returns-in_err-first g c = record { ran = MatchResult-from_err c.from-residual.result _ _ c.from-residual.ensures.0 (λ e. (c.in_err-first.ensures.ran, none_ran _ _)); same = same_bytes_same_page }
 
-pub returns-in-err-second : goal.returns-in-err-second
-returns-in-err-second g c = record { ran = MatchResult-from_err c.from-residual-in-err-second.result _ _ c.from-residual-in-err-second.ensures.0 (λ e. (all_ran c.in-ok-first.ensures.ran, c.in-err-second.ensures.ran)); same = same_bytes_same_page }
+pub returns-in_err-second : goal.returns-in_err-second
+returns-in_err-second g c = record { ran = MatchResult-from_err c.from-residual-in_err-second.result _ _ c.from-residual-in_err-second.ensures.0 (λ e. (all_ran c.in_ok-first.ensures.ran, c.in_err-second.ensures.ran)); same = same_bytes_same_page }
 
 pub returns : goal.returns
 returns g c =
     let shows = g.P.Panel.shows in
     let seen = g.Q.Panel.shows in
-    let one = c.in-ok-first.ensures.ran in
-    let other = c.in-ok-second.ensures.ran in
+    let one = c.in_ok-first.ensures.ran in
+    let other = c.in_ok-second.ensures.ran in
     record {
       ran = (one, other, agree (on_panel c.args.one.now (shows c.args.shown.now)) (on_panel c.args.other.now (seen c.args.over.now)) _ _ _ _ one.leaves other.leaves);
       same = same_bytes_same_page;

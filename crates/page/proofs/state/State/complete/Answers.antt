@@ -11,7 +11,7 @@ unfolding stepped
 returns-in-Some g c =
     c.perform.ensures ∙ comes_to (state_of c.args.self.now) _ _ _ _ c.step.ensures.standing (sym (ap (λ o. option_to_list (option_map function_of o)) c.in-Some.is) ∙ c.step.ensures.completes)
 
-pub returns-in-default : goal.returns-in-default
+pub returns-in_default : goal.returns-in_default
 unfolding stepped
-returns-in-default g c =
-    comes_to (state_of c.args.self.now) _ _ _ _ c.step.ensures.standing (sym (ap (λ o. option_to_list (option_map function_of o)) c.in-default.is) ∙ c.step.ensures.completes)
+returns-in_default g c =
+    comes_to (state_of c.args.self.now) _ _ _ _ c.step.ensures.standing (sym (ap (λ o. option_to_list (option_map function_of o)) c.in_default.is) ∙ c.step.ensures.completes)

@@ -6,7 +6,7 @@ use Rattle.reader.proofs.Strings.{reads_numbers}
 use Rattle.reader.proofs.Standings.{reads_reset, standings_differ}
 use Rattle.reader.proofs.Tabled.{bytes_by_standing}
 use Rattle.reader.proofs.reader.Reader.read.Goals as goal
-use Rattle.reader.proofs.reader.Reader.read.Goals.{in-Some, in-default}
+use Rattle.reader.proofs.reader.Reader.read.Goals.{in-Some, in_default}
 
 pub loop-byte-preserved : goal.loop-byte-preserved
 loop-byte-preserved c =
@@ -16,7 +16,7 @@ loop-byte-preserved c =
     let performs = turn_performed (functions_of c.step.result) _ _ c.args.bytes.now _ _ on i.0 i.1 c.step.ensures.completes in
     elim c.match-step.branch [
       | in-Some w ↦ let one : length (functions_of c.step.result) ≡ 1 = rw w.in-Some.is refl in (standing, omega (arith, w.count-is, performs, one), omega (arith, w.count-is))
-      | in-default w ↦ let none : length (functions_of c.step.result) ≡ 0 = rw w.in-default.is refl in (standing, omega (arith, w.count-is, performs, none), omega (arith, w.count-is))
+      | in_default w ↦ let none : length (functions_of c.step.result) ≡ 0 = rw w.in_default.is refl in (standing, omega (arith, w.count-is, performs, none), omega (arith, w.count-is))
     ]
 
 pub returns : goal.returns
