@@ -161,19 +161,19 @@ module _ (p : ModulePanel) where
 
   -- the same panel with other bytes behind it
   abbrev pub with_bytes : List ℕ → Screen
-  with_bytes ys = moduled_if (roomy p.size (length ys / 3)) p.bytes.name p.size.lines p.size.columns ys
+  with_bytes ys = moduled_if (roomy p.size (length ys / 3)) p.bytes.ghost_name p.size.lines p.size.columns ys
 
   pub module_put : (line column at : ℕ) (x : Cell) → Stored s line column at → with_bytes (scattered (p.size.lines * p.size.columns) bytes at x) ≡ put_on s (line * s.grid.columns + column) x
   module_put line column at x st =
-      ap (λ z. moduled_if (roomy p.size (z / 3)) p.bytes.name p.size.lines p.size.columns (scattered (p.size.lines * p.size.columns) bytes at x)) (length-set _ _ _ ∙ length-set _ _ _ ∙ length-set _ _ _)
-      ∙ put_if test p.bytes.name p.size.lines p.size.columns (p.size.lines * p.size.columns) bytes line column at x laid st
+      ap (λ z. moduled_if (roomy p.size (z / 3)) p.bytes.ghost_name p.size.lines p.size.columns (scattered (p.size.lines * p.size.columns) bytes at x)) (length-set _ _ _ ∙ length-set _ _ _ ∙ length-set _ _ _)
+      ∙ put_if test p.bytes.ghost_name p.size.lines p.size.columns (p.size.lines * p.size.columns) bytes line column at x laid st
 
   pub module_room : (line column at : ℕ) → Stored s line column at → 2 * (p.size.lines * p.size.columns) + at < length bytes
-  module_room line column at st = room_if test p.bytes.name p.size.lines p.size.columns (p.size.lines * p.size.columns) bytes line column at laid st
+  module_room line column at st = room_if test p.bytes.ghost_name p.size.lines p.size.columns (p.size.lines * p.size.columns) bytes line column at laid st
 
   pub module_cell : (line column at : ℕ) → on s.grid line column ≡ true → Stored s (line - 1) (column - 1) at → accepted (gathered (p.size.lines * p.size.columns) bytes at) ≡ cell_answer s.grid line column
   module_cell line column at t st =
-      ap accepted (cell_if test p.bytes.name p.size.lines p.size.columns (p.size.lines * p.size.columns) bytes (line - 1) (column - 1) at laid st) ∙ sym (cond-true _ _ _ t)
+      ap accepted (cell_if test p.bytes.ghost_name p.size.lines p.size.columns (p.size.lines * p.size.columns) bytes (line - 1) (column - 1) at laid st) ∙ sym (cond-true _ _ _ t)
 
 -- a line and column on the panel, counted from 0
 pub record Low (g : Grid) (line column : ℕ) : Type 0 where

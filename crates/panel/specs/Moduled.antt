@@ -51,4 +51,4 @@ sound_if true loan lines columns bytes enough = let r = enough refl in record { 
 sound_if false loan lines columns bytes enough = record { count = refl; tall = omega arith; wide = omega arith }
 
 pub module_sound : (p : ModulePanel) → Sound (module_shows p)
-module_sound p = sound_if _ p.bytes.name _ _ _ (roomy_true p.size _)
+module_sound p = sound_if _ p.bytes.ghost_name _ _ _ (roomy_true p.size _)

@@ -4,9 +4,9 @@ use Rattle.panel.proofs.module.ModulePanel.put.Goals as goal
 
 pub scatter-requires : goal.scatter-requires
 scatter-requires c =
-    module_room c.args.self.now _ _ _ (record { line_low = c.requires.0; column_low = c.requires.1; is = c.stored_at.ensures })
+    module_room c.args.self.now _ _ _ (record { line_low = c.requires.0; column_low = c.requires.1; is = c.stored-at.ensures })
 
 pub returns : goal.returns
 returns c =
     let p = c.args.self.now in
-    ap (with_bytes p) c.scatter.ensures ∙ module_put p _ _ _ _ (record { line_low = c.requires.0; column_low = c.requires.1; is = c.stored_at.ensures })
+    ap (with_bytes p) c.scatter.ensures ∙ module_put p _ _ _ _ (record { line_low = c.requires.0; column_low = c.requires.1; is = c.stored-at.ensures })
