@@ -22,8 +22,11 @@ IN_ANTT = r"--(?!\w)[^\n]*|\{-.*?-\}"
 
 
 def files(ending):
-    for folder, dirs, names in os.walk(os.path.join(ROOT, "crates")):
-        dirs[:] = sorted(d for d in dirs if d != "out")
+    crates = os.path.join(ROOT, "crates")
+    for folder, dirs, names in os.walk(crates):
+        # what a check keeps stands in the folder out of each crate
+        kept = os.path.dirname(folder) == crates
+        dirs[:] = sorted(d for d in dirs if not (kept and d == "out"))
         for name in sorted(names):
             if name.endswith(ending):
                 yield os.path.join(folder, name)

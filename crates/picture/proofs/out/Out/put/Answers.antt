@@ -9,8 +9,8 @@ pub returns : goal.returns
 returns c =
     let t = tape c.args.self.now in
     let w1 = c.args.byte ∷ [] in
-    let n = c.saturating-add-self.result in
+    let n = c.saturating_add-self.result in
     elim c.if-at-self.branch [
-      | then-at-self w ↦ subst (λ s. Lays t w1 (tape (record { bytes = s.bytes; at = n }))) (sym w.self-is) (lays_one t c.args.byte _ n refl c.saturating-add-self.ensures)
-      | else-at-self w ↦ subst (λ s. Lays t w1 (tape (record { bytes = s.bytes; at = n }))) (sym w.self-is) (lays_one t c.args.byte _ n (sym (set_past _ _ _ w.if-at-self.false)) c.saturating-add-self.ensures)
+      | then-at-self w ↦ subst (λ s. Lays t w1 (tape (record { bytes = s.bytes; at = n }))) (sym w.self-is) (lays_one t c.args.byte _ n refl c.saturating_add-self.ensures)
+      | else-at-self w ↦ subst (λ s. Lays t w1 (tape (record { bytes = s.bytes; at = n }))) (sym w.self-is) (lays_one t c.args.byte _ n (sym (set_past _ _ _ w.if-at-self.false)) c.saturating_add-self.ensures)
     ]
