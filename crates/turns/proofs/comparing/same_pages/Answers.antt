@@ -8,21 +8,21 @@ use Rattle.turns.proofs.comparing.same_pages.Goals as goal
 pub returns-in_err-of_one_size : goal.returns-in_err-of_one_size
 returns-in_err-of_one_size g c =
     record {
-      compares = other_size _ _ c.args.first.now c.args.second.now c.from-residual.result c.in_err-of_one_size.field-0.0 c.from-residual.ensures.1 c.in_err-of_one_size.ensures;
+      compares = other_size _ _ c.args.first.now c.args.second.now c.from_residual.result c.in_err-of_one_size.field-0.0 c.from_residual.ensures.1 c.in_err-of_one_size.ensures;
       tell = pictures_tell_pages;
     }
 
 pub returns-in_err-n : goal.returns-in_err-n
 returns-in_err-n g c =
     record {
-      compares = first_refused _ _ c.args.first.now c.args.second.now c.in_ok-of_one_size.ensures c.from-residual-in_err-n.result c.in_err-n.field-0.0 _ c.from-residual-in_err-n.ensures.1 c.in_err-n.ensures;
+      compares = first_refused _ _ c.args.first.now c.args.second.now c.in_ok-of_one_size.ensures c.from_residual-in_err-n.result c.in_err-n.field-0.0 _ c.from_residual-in_err-n.ensures.1 c.in_err-n.ensures;
       tell = pictures_tell_pages;
     }
 
 pub returns-in_err-m : goal.returns-in_err-m
 returns-in_err-m g c =
     record {
-      compares = second_refused _ _ c.args.first.now c.args.second.now c.in_ok-of_one_size.ensures c.in_ok-n.n _ c.in_ok-n.ensures c.from-residual-in_err-m.result c.in_err-m.field-0.0 _ c.from-residual-in_err-m.ensures.1 c.in_err-m.ensures;
+      compares = second_refused _ _ c.args.first.now c.args.second.now c.in_ok-of_one_size.ensures c.in_ok-n.n _ c.in_ok-n.ensures c.from_residual-in_err-m.result c.in_err-m.field-0.0 _ c.from_residual-in_err-m.ensures.1 c.in_err-m.ensures;
       tell = pictures_tell_pages;
     }
 

@@ -6,15 +6,15 @@ use Rattle.turns.proofs.Copied.{takes, refused_size, refused_target, refused_pic
 use Rattle.turns.proofs.copying.copy_page.Goals as goal
 
 pub returns-in_err-of_one_size : goal.returns-in_err-of_one_size
-returns-in_err-of_one_size g c = record { copies = refused_size _ _ c.args.buffer.now c.from-residual.result c.in_err-of_one_size.field-0.0 c.from-residual.ensures.1 c.in_err-of_one_size.ensures; restores = picture_restores }
+returns-in_err-of_one_size g c = record { copies = refused_size _ _ c.args.buffer.now c.from_residual.result c.in_err-of_one_size.field-0.0 c.from_residual.ensures.1 c.in_err-of_one_size.ensures; restores = picture_restores }
 
 pub returns-in_err-takes_picture : goal.returns-in_err-takes_picture
-returns-in_err-takes_picture g c = record { copies = refused_target _ _ c.args.buffer.now c.from-residual-in_err-takes_picture.result c.in_err-takes_picture.field-0.0 c.in_ok-of_one_size.ensures c.from-residual-in_err-takes_picture.ensures.1 c.in_err-takes_picture.ensures; restores = picture_restores }
+returns-in_err-takes_picture g c = record { copies = refused_target _ _ c.args.buffer.now c.from_residual-in_err-takes_picture.result c.in_err-takes_picture.field-0.0 c.in_ok-of_one_size.ensures c.from_residual-in_err-takes_picture.ensures.1 c.in_err-takes_picture.ensures; restores = picture_restores }
 
 pub returns-in_err-n : goal.returns-in_err-n
 returns-in_err-n g c =
     record {
-      copies = refused_picture _ _ c.args.buffer.now c.in_ok-of_one_size.ensures c.in_ok-takes_picture.ensures c.from-residual-in_err-n.result c.in_err-n.field-0.0 _ c.from-residual-in_err-n.ensures.1 c.in_err-n.ensures;
+      copies = refused_picture _ _ c.args.buffer.now c.in_ok-of_one_size.ensures c.in_ok-takes_picture.ensures c.from_residual-in_err-n.result c.in_err-n.field-0.0 _ c.from_residual-in_err-n.ensures.1 c.in_err-n.ensures;
       restores = picture_restores;
     }
 

@@ -9,13 +9,13 @@ use Rattle.turns.proofs.Ran.{none_ran, ran_none, some_ran, ran_more, ran_all}
 use Rattle.turns.proofs.running.run_turns.Goals as goal
 
 pub returns-in_err-answers : goal.returns-in_err-answers
-returns-in_err-answers g c = record { ran = MatchResult-from_err c.from-residual.result _ _ c.from-residual.ensures.0 (λ e. none_ran _ _); items = runs_show_items; foreign = never_foreign; cases = cases_hold }
+returns-in_err-answers g c = record { ran = MatchResult-from_err c.from_residual.result _ _ c.from_residual.ensures.0 (λ e. none_ran _ _); items = runs_show_items; foreign = never_foreign; cases = cases_hold }
 
 pub loop-turn-init : goal.loop-turn-init
 loop-turn-init g c = let m = c.in_ok-answers.ensures in (ran_none _ [] _ _ m.items c.new-written.ensures.items, omega (arith, m.len), m.capacity)
 
 pub returns-in_err-answer : goal.returns-in_err-answer
-returns-in_err-answer g c = record { ran = MatchResult-from_err c.from-residual-in_err-answer.result _ _ c.from-residual-in_err-answer.ensures.0 (λ e. some_ran c.loop-turn.turn-index c.loop-turn.invariant.0 c.in_err-answer.ensures.0); items = runs_show_items; foreign = never_foreign; cases = cases_hold }
+returns-in_err-answer g c = record { ran = MatchResult-from_err c.from_residual-in_err-answer.result _ _ c.from_residual-in_err-answer.ensures.0 (λ e. some_ran c.loop-turn.turn-index c.loop-turn.invariant.0 c.in_err-answer.ensures.0); items = runs_show_items; foreign = never_foreign; cases = cases_hold }
 
 pub loop-turn-preserved : goal.loop-turn-preserved
 loop-turn-preserved g c =

@@ -6,10 +6,10 @@ use Rattle.turns.proofs.SoFar.{same_bytes_same_page}
 use Rattle.turns.proofs.running_two.run_two.Goals as goal
 
 pub returns-in_err-first : goal.returns-in_err-first
-returns-in_err-first g c = record { ran = MatchResult-from_err c.from-residual.result _ _ c.from-residual.ensures.0 (λ e. (c.in_err-first.ensures.ran, none_ran _ _)); same = same_bytes_same_page }
+returns-in_err-first g c = record { ran = MatchResult-from_err c.from_residual.result _ _ c.from_residual.ensures.0 (λ e. (c.in_err-first.ensures.ran, none_ran _ _)); same = same_bytes_same_page }
 
 pub returns-in_err-second : goal.returns-in_err-second
-returns-in_err-second g c = record { ran = MatchResult-from_err c.from-residual-in_err-second.result _ _ c.from-residual-in_err-second.ensures.0 (λ e. (all_ran c.in_ok-first.ensures.ran, c.in_err-second.ensures.ran)); same = same_bytes_same_page }
+returns-in_err-second g c = record { ran = MatchResult-from_err c.from_residual-in_err-second.result _ _ c.from_residual-in_err-second.ensures.0 (λ e. (all_ran c.in_ok-first.ensures.ran, c.in_err-second.ensures.ran)); same = same_bytes_same_page }
 
 pub returns : goal.returns
 returns g c =
