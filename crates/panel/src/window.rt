@@ -3,9 +3,9 @@ ghost use Rattle.std.specs.Prelude.{◌≡◌, ℕ, ◌+◌, ◌-◌, ◌*◌, �
 ghost use Rattle.panel.specs.Grids.{size_of, InLine};
 ghost use Rattle.panel.specs.Screens.{wipe_on};
 ghost use Rattle.panel.specs.Rectangles.{framed};
-ghost use Rattle.panel.specs.Windows.{windowed, windowed_sound, beneath};
+ghost use Rattle.panel.specs.Windows.{windowed, windowed_sound, beneath, part_beneath};
 
-use crate::{Cell, Panel, Rectangle, Size};
+use crate::{Cell, Panel, Position, Rectangle, Size, outside};
 use refusal::Refusal;
 
 #[derive(Drop)]
@@ -58,6 +58,25 @@ impl<P: Panel> Window<P> {
         };
         if size.has(line, column) {
             Some((f.top + (line - 1), f.left + (column - 1)))
+        } else {
+            None
+        }
+    }
+
+    // Where some cells of a line of the window begin below: there too they are cells of a line.
+    fn part_below(&self, at: Position, count: u16) -> Option<Position>
+        ensures { result ≡ part_beneath (framed (P.Panel.shows self.now.below).grid.lines (P.Panel.shows self.now.below).grid.columns self.now.frame) at count }
+    {
+        let f = self.shown();
+        let size = Size {
+            lines: f.lines,
+            columns: f.columns,
+        };
+        if size.has_part(at, count) {
+            Some(Position {
+                line: f.top + (at.line - 1),
+                column: f.left + (at.column - 1),
+            })
         } else {
             None
         }
@@ -127,5 +146,15 @@ impl<P: Panel> Panel for Window<P> {
             }
             None => Err(Refusal::OutsidePanel { line, column }),
         }
+    }
+
+    fn copy(&mut self, from: Position, to: Position, count: u16) -> Result<(), Refusal> {
+        let Some(source) = self.part_below(from, count) else {
+            return Err(outside(from));
+        };
+        let Some(target) = self.part_below(to, count) else {
+            return Err(outside(to));
+        };
+        self.below.copy(source, target, count)
     }
 }
