@@ -9,14 +9,17 @@
 mod passes;
 mod words;
 
+use std::process::ExitCode;
 use words::Failure;
 
-fn main(rt: HostRuntime) -> Result<(), Failure> {
-    let result = run(&rt);
-    if let Err(failure) = &result {
-        let _ = eprintln!(rt; "{failure}");
+fn main(rt: HostRuntime) -> ExitCode {
+    match run(&rt) {
+        Ok(()) => ExitCode::SUCCESS,
+        Err(failure) => {
+            let _ = eprintln!(rt; "{failure}");
+            ExitCode::FAILURE
+        }
     }
-    result
 }
 
 fn run(rt: &HostRuntime) -> Result<(), Failure> {
