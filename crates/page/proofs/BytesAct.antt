@@ -9,7 +9,7 @@ use Rattle.control.specs.declared.function.Control.TheVariants as c
 use Rattle.control.specs.declared.function.Extent.TheVariants as extent
 use Rattle.control.specs.declared.function.Clearing.TheVariants as clearing
 use Rattle.control.specs.Decoding.{decoded, values}
-use Rattle.page.specs.Sheets.{State, Sheet, on_state, reading}
+use Rattle.page.specs.Sheets.{Sheet, on_state, reading}
 use Rattle.page.specs.Moves.{up, down, to_first_column}
 use Rattle.page.specs.Cells.{moved, line_rest, set_character, scroll}
 use Rattle.page.specs.Effects.{begun, effect, does, does_all, stepped, run}

@@ -1,16 +1,15 @@
 -- Deliveries: what is left of the bytes leads where all of them do.
-use Rattle.std.proofs.Common.{◌≡◌, ℕ, suc, ◌+◌, ◌<◌, ◌≤◌, Bool, true, false, leb, List, [], ◌∷◌, length, get_or, take, drop, is_some, sym, refl, ap, ◌∙◌, subst, arith, drop_of_length-le}
+use Rattle.std.proofs.Common.{◌≡◌, ℕ, suc, ◌+◌, ◌<◌, ◌≤◌, Bool, true, false, leb, List, ◌∷◌, length, get_or, take, drop, is_some, sym, refl, ap, ◌∙◌, subst, arith, drop_of_length-le}
 use Rattle.std.proofs.lemmas.List.{drop_more, length-take-le}
 use Rattle.std.proofs.lemmas.Bool.{cond-true, cond-false, le-leb}
-use Rattle.panel.specs.Screens.{Screen, Beyond}
-use Rattle.reader.specs.Steps.{Standing, step}
-use Rattle.reader.specs.Requests.{any_requests, until_request}
+use Rattle.reader.specs.Steps.{Standing}
+use Rattle.reader.specs.Requests.{until_request}
 use Rattle.reader.proofs.Stopping.{request_here, request_later, finds_first}
 use Rattle.page.specs.Sheets.{Sheet, Placed, Sits, sheet_of, upon}
 use Rattle.page.specs.Effects.{stepped, run}
 use Rattle.refusal.specs.Table.{accepted}
 use Rattle.page.specs.Plain.{Plain, OnPanel, known, owes, taken_at, by_delivery, page_refuses, deliver_answer, delivered, after_bytes, taken, leaves}
-use Rattle.page.proofs.Stepping.{Fits, stepped_standing, stepped_owes, stepped_fits}
+use Rattle.page.proofs.Stepping.{stepped_standing, stepped_owes, stepped_fits}
 
 -- all that bytes do
 abbrev pub fed : List ℕ → Sheet → Sheet

@@ -1,11 +1,11 @@
 -- What holds of every cell of a grid still does, after a set, an erasure or a shift.
-use Rattle.std.proofs.Common.{◌≡◌, ℕ, zero, suc, ◌+◌, ◌-◌, ◌*◌, ◌/◌, ◌%◌, Bool, true, false, cond, List, [], ◌∷◌, ◌++◌, map, length, get_or, take, drop, set, replicate, sym, refl, ap}
+use Rattle.std.proofs.Common.{◌≡◌, ℕ, zero, suc, ◌+◌, ◌*◌, ◌/◌, ◌%◌, Bool, true, cond, List, [], ◌∷◌, ◌++◌, map, get_or, take, drop, set, replicate}
 use Rattle.std.specs.List.{range_with_len}
 use Rattle.std.proofs.lemmas.Bool.{cond_both}
 use Rattle.panel.specs.declared.cell.Cell.{Cell}
 use Rattle.panel.specs.declared.rectangle.Rectangle.{Rectangle}
 use Rattle.panel.specs.declared.shifting.Direction.{Direction}
-use Rattle.panel.specs.Grids.{Grid, erased, on, run_on, index, wiped, with_cells, replaced, cell_at, after_set, after_erase}
+use Rattle.panel.specs.Grids.{Grid, erased, on, run_on, index, wiped, with_cells, cell_at, after_set, after_erase}
 use Rattle.panel.specs.Rectangles.{inside, covers, in_rectangle}
 use Rattle.panel.specs.Shifts.{source, from_source, incoming_at, shifted, after_shift}
 

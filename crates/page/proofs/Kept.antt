@@ -1,5 +1,5 @@
 -- What every control function keeps: the sizes, and but for RIS and DSR the reader's standing and what is owed.
-use Rattle.std.proofs.Common.{◌≡◌, ℕ, ◌+◌, ◌-◌, min, Bool, true, false, cond, ltb, List, Some, sym, refl, ap, ◌∙◌}
+use Rattle.std.proofs.Common.{◌≡◌, ℕ, ◌+◌, ◌-◌, min, Bool, true, false, cond, ltb, List, Some, refl, ap, ◌∙◌}
 use Rattle.std.proofs.lemmas.Bool.{cond_both}
 use Rattle.panel.specs.declared.cell.Cell.{Cell}
 use Rattle.panel.specs.declared.rectangle.Rectangle.{Rectangle}
@@ -19,9 +19,9 @@ use Rattle.control.specs.declared.function.Extent.TheVariants as extent
 use Rattle.control.specs.declared.function.Clearing.{Clearing}
 use Rattle.control.specs.declared.function.Clearing.TheVariants as clearing
 use Rattle.page.specs.Sheets.{State, Sheet, on_state, showing, owing}
-use Rattle.page.specs.Moves.{up, down, right, to_first_column}
+use Rattle.page.specs.Moves.{up, down, to_first_column}
 use Rattle.page.specs.Stops.{cleared}
-use Rattle.page.specs.Cells.{here, cells_in, to_edge, erased_run, moved, line_rest, page_rest, all_of, erase_in_page, erase_in_line, set_character, character, scroll, line_feed, reverse_line_feed}
+use Rattle.page.specs.Cells.{here, cells_in, to_edge, erased_run, moved, line_rest, page_rest, all_of, erase_in_page, erase_in_line, set_character, scroll, line_feed}
 use Rattle.page.specs.Effects.{begun, effect}
 use Rattle.page.proofs.Every.{Every, every_set, every_erase, every_shift}
 

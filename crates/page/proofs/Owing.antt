@@ -1,13 +1,13 @@
 -- The sort of the control function that a function selects: a graphic character draws, a request asks, and no other.
-use Rattle.std.proofs.Common.{◌≡◌, ℕ, suc, ◌≤◌, Bool, true, false, cond, not, ◌&&◌, ◌||◌, eqb, ltb, leb, List, [], ◌∷◌, ◌++◌, length, Some, None, sym, refl, ap, ◌∙◌, subst, arith}
-use Rattle.std.proofs.lemmas.Bool.{cond-true, cond-false, lt-leb, eqb-true, both_ways, cases_Bool}
+use Rattle.std.proofs.Common.{◌≡◌, ℕ, ◌≤◌, Bool, true, false, cond, ◌&&◌, ◌||◌, eqb, leb, List, [], ◌∷◌, ◌++◌, length, Some, None, sym, refl, ap, ◌∙◌, arith}
+use Rattle.std.proofs.lemmas.Bool.{cond-false, lt-leb, eqb-true, both_ways}
 use Rattle.reader.specs.Functions.{Parameter, Function, graphic, control, reset, sequence}
 use Rattle.reader.specs.Requests.{is_report, requests}
 use Rattle.control.specs.declared.function.Control.{Control}
 use Rattle.control.specs.declared.function.Control.TheVariants as c
 use Rattle.control.specs.declared.function.Report.TheVariants.{Status, Position}
 use Rattle.control.specs.Tables.{pick}
-use Rattle.control.specs.Decoding.{no_effect, at_most, number_at, counted, chosen, page_extents, line_extents, clearings, reports, plain_finals, spaced_finals, singles, decoded, values}
+use Rattle.control.specs.Decoding.{no_effect, at_most, number_at, counted, chosen, page_extents, line_extents, clearings, reports, plain_finals, spaced_finals, singles, decoded}
 use Rattle.page.proofs.Kept.{Sort, ordinary, asking, drawing, sort, is_asking, asks}
 
 -- a table of ordinary functions

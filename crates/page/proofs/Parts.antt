@@ -1,13 +1,12 @@
 -- A delivery in two parts is the delivery of the whole, while nothing is owed.
-use Rattle.std.proofs.Common.{◌≡◌, ℕ, suc, ◌+◌, ◌≤◌, Bool, true, false, ◌&&◌, eqb, List, [], ◌∷◌, ◌++◌, length, take, is_some, sym, refl, ap, ◌∙◌, subst, arith, length-append}
+use Rattle.std.proofs.Common.{◌≡◌, ℕ, suc, ◌+◌, ◌≤◌, Bool, true, false, List, [], ◌∷◌, ◌++◌, length, take, is_some, sym, refl, ap, ◌∙◌, subst, arith, length-append}
 use Rattle.std.proofs.lemmas.Bool.{both_ways, and_parts, and_from, eqb-true, eq-eqb}
-use Rattle.reader.specs.Steps.{Standing}
 use Rattle.reader.specs.Requests.{until_request}
 use Rattle.page.specs.Sheets.{Sheet}
 use Rattle.page.specs.Effects.{stepped, run}
 use Rattle.page.specs.Plain.{Plain, known, owes, taken_at, taken, after_bytes, delivered}
 use Rattle.page.specs.Laws.{DeliversInParts}
-use Rattle.page.proofs.Stepping.{Fits, stepped_standing, stepped_fits}
+use Rattle.page.proofs.Stepping.{Fits, stepped_fits}
 use Rattle.page.proofs.Deliveries.{fed, last_byte, one_byte, delivered_goes}
 
 pub run_fits : (x : Sheet) (bs : List ℕ) → Fits x → Fits (run x bs)

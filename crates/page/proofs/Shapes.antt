@@ -1,9 +1,9 @@
 -- A byte completes nothing, or one function and leaves the reader at rest.
-use Rattle.std.proofs.Common.{◌≡◌, ℕ, ◌+◌, Bool, true, false, cond, ◌&&◌, ◌||◌, eqb, [], ◌∷◌, Some, None, refl}
+use Rattle.std.proofs.Common.{◌≡◌, ℕ, ◌+◌, Bool, true, false, cond, ◌&&◌, ◌||◌, eqb, [], Some, None, refl}
 use Rattle.std.proofs.lemmas.Bool.{cond_both}
 use Rattle.reader.specs.Bytes.{among, isGraphic, isOpener, isBody, isIntermediate, isParameter, endsEscape, endsSequence}
 use Rattle.reader.specs.Functions.{Function, Parameters, graphic, control, reset, sequence}
-use Rattle.reader.specs.Steps.{Standing, Outcome, to, ends, at_rest, resting, escape_final, sequence_final, step, rest, escape, in_parameters, in_intermediates, in_string, in_sos, with_byte}
+use Rattle.reader.specs.Steps.{Standing, Outcome, to, ends, at_rest, escape_final, sequence_final, step, rest, escape, in_parameters, in_intermediates, in_string, in_sos, with_byte}
 
 -- what the reader hands out as a graphic character is one
 abbrev pub Read : Function → Type 0

@@ -1,14 +1,14 @@
 -- What a byte leaves: where the reader stands, whether a reply is owed, and a panel of the page's size.
-use Rattle.std.proofs.Common.{◌≡◌, ℕ, Bool, true, false, ◌||◌, List, [], ◌∷◌, is_some, Option, sym, refl, ap, ◌∙◌, subst}
+use Rattle.std.proofs.Common.{◌≡◌, ℕ, Bool, true, false, ◌||◌, is_some, Option, sym, refl, ap, ◌∙◌, subst}
 use Rattle.control.specs.declared.function.Report.{Report}
 use Rattle.reader.specs.Functions.{Function}
-use Rattle.reader.specs.Steps.{Standing, Outcome, to, ends, rest, step}
+use Rattle.reader.specs.Steps.{Outcome, rest, step}
 use Rattle.reader.specs.Requests.{requests, any_requests}
 use Rattle.control.specs.Decoding.{decoded, values}
 use Rattle.page.specs.Sheets.{Sheet, on_state, reading}
 use Rattle.page.specs.Effects.{begun, does, acts, stepped}
 use Rattle.page.proofs.Shapes.{Shape, quiet, whole, step_shape}
-use Rattle.page.proofs.Kept.{asks, Kept, Left, keeps, begins, owes, effect_leaves, erase_size}
+use Rattle.page.proofs.Kept.{asks, Left, keeps, begins, owes, effect_leaves, erase_size}
 use Rattle.page.proofs.Owing.{decoded_asks}
 
 -- a page beside a grid of its size

@@ -5,9 +5,9 @@ use Rattle.panel.specs.Screens.{Screen}
 use Rattle.reader.specs.Bytes.{isGraphic, isParameter}
 use Rattle.reader.specs.Functions.{Parameters, Function, graphic}
 use Rattle.reader.specs.Steps.{Standing, Outcome, rest, in_parameters, step, at_rest, ends, to, with_byte}
-use Rattle.page.specs.Sheets.{State, Sheet, Placed, upon, on_state, reading}
+use Rattle.page.specs.Sheets.{State, upon, reading}
 use Rattle.page.specs.Cells.{character}
-use Rattle.page.specs.Effects.{does, does_all, acts, stepped}
+use Rattle.page.specs.Effects.{does_all, acts, stepped}
 
 -- the reader moved, and the functions done
 pub comes_to : (s : State) (v : Screen) (o : Outcome) (fs : List Function) (a : Standing) → a ≡ o.standing → fs ≡ o.performs

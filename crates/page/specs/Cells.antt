@@ -1,5 +1,5 @@
 -- Erasures and movements of cells, and graphic characters.
-use Rattle.std.specs.Prelude.{ℕ, ◌+◌, ◌-◌, ◌*◌, min, Bool, true, false, cond, nat_lt}
+use Rattle.std.specs.Prelude.{ℕ, ◌+◌, ◌-◌, ◌*◌, min, cond, nat_lt}
 use Rattle.panel.specs.declared.rectangle.Rectangle.{Rectangle}
 use Rattle.panel.specs.declared.shifting.Direction.{Direction}
 use Rattle.panel.specs.declared.shifting.Direction.TheVariants.{Up, Down, Left, Right}

@@ -1,5 +1,5 @@
 -- What each control function does to a page.
-use Rattle.std.specs.Prelude.{ℕ, ◌*◌, Bool, true, false, cond, List, [], ◌∷◌, map, replicate, Some, None}
+use Rattle.std.specs.Prelude.{ℕ, ◌*◌, Bool, true, false, List, [], ◌∷◌, map, replicate, Some, None}
 use Rattle.std.specs.List.{range_with_len}
 use Rattle.panel.specs.declared.shifting.Direction.TheVariants as way
 use Rattle.panel.specs.Grids.{Grid, after_erase}

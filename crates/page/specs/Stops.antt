@@ -1,5 +1,5 @@
 -- Character and line stops, as flags for columns and lines.
-use Rattle.std.specs.Prelude.{ℕ, zero, suc, ◌+◌, ◌-◌, ◌%◌, Bool, true, false, cond, ◌&&◌, List, [], ◌∷◌, drop, set, replicate, ◌==◌, nat_le, slice_index_or, slice_set}
+use Rattle.std.specs.Prelude.{ℕ, zero, suc, ◌+◌, ◌-◌, ◌%◌, Bool, false, cond, ◌&&◌, List, [], ◌∷◌, drop, replicate, ◌==◌, nat_le, slice_index_or, slice_set}
 use Rattle.control.specs.declared.function.Clearing.{Clearing}
 use Rattle.control.specs.declared.function.Clearing.TheVariants.{ColumnStop, LineStop, AllColumnStops, AllLineStops, AllStops}
 use Rattle.page.specs.Sheets.{State, with_stops}

@@ -9,7 +9,7 @@ use Rattle.refusal.specs.Table.{accepted}
 use Rattle.panel.specs.declared.cell.Cell.{Cell}
 use Rattle.panel.specs.declared.module.ModulePanel.{ModulePanel}
 use Rattle.panel.specs.declared.size.Size.{Size}
-use Rattle.panel.specs.Grids.{Grid, erased, on, cell_answer, index, size_of, within, with_cells, InLine}
+use Rattle.panel.specs.Grids.{Grid, erased, on, cell_answer, size_of, within, with_cells, InLine}
 use Rattle.panel.specs.Screens.{Screen, Sound, bytes_past, with_grid, put_on, wipe_on}
 use Rattle.panel.specs.Memories.{roomy, roomy_true}
 use Rattle.panel.specs.Moduled.{row_of, stored_at, gathered, scattered, moduled_if, module_shows}

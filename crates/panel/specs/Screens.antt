@@ -1,5 +1,5 @@
 -- What a panel shows: a grid of cells, and what lies beyond them.
-use Rattle.std.specs.Prelude.{ℕ, List, set, slice_set}
+use Rattle.std.specs.Prelude.{ℕ, List, slice_set}
 use Rattle.panel.specs.declared.cell.Cell.{Cell}
 use Rattle.panel.specs.Grids.{Grid, Whole, with_cells, wiped, after_set, after_erase}
 

@@ -1,6 +1,6 @@
 -- Functions that are written are read back.
-use Rattle.std.proofs.Common.{◌≡◌, ℕ, suc, ◌+◌, ◌-◌, ◌*◌, ◌/◌, ◌%◌, ◌<◌, ◌≤◌, min, Bool, true, false, cond, ◌&&◌, ◌||◌, eqb, ltb, leb, List, [], ◌∷◌, ◌++◌, map, length, Some, None, sym, refl, ap, ◌∙◌, subst, inr, ⊎_elim, append-nil, zero-add, arith}
-use Rattle.std.proofs.lemmas.Bool.{cond-true, cond-false, cond_both, ltb-true, ltb-false, leb-true, leb-false, le-leb, and_from, cases_Bool}
+use Rattle.std.proofs.Common.{◌≡◌, ℕ, suc, ◌+◌, ◌-◌, ◌*◌, ◌/◌, ◌%◌, ◌≤◌, min, Bool, true, false, cond, ◌&&◌, ◌||◌, eqb, ltb, leb, List, [], ◌∷◌, ◌++◌, map, length, Some, None, sym, refl, ap, ◌∙◌, subst, inr, zero-add, arith}
+use Rattle.std.proofs.lemmas.Bool.{cond-true, cond-false, cond_both, ltb-true, ltb-false, leb-true, le-leb, and_from}
 use Rattle.std.proofs.lemmas.Bool.Decides.{nat_tests}
 use Rattle.reader.specs.declared.item.Kind.TheVariants.{Sequence}
 use Rattle.reader.specs.Bytes.{among, isGraphic, isDigit, isSeparator, isParameter, isIntermediate, isOpener, endsSequence, AllOf}
@@ -12,7 +12,7 @@ use Rattle.reader.proofs.Parts.{standing_parts, performed_parts}
 use Rattle.reader.proofs.Sequences.{sequence_performed}
 use Rattle.reader.proofs.Endings.{behind_item}
 use Rattle.picture.specs.Writing.{digits, parameter_bytes, more_bytes, parameters_bytes, space_bytes, written, all_written}
-use Rattle.picture.specs.Writable.{isSingle, Small, Told, Fits, Writable, Each, ReadsBack}
+use Rattle.picture.specs.Writable.{isSingle, Small, Fits, Writable, ReadsBack}
 
 -- digits that read as a number
 record Reads (n : ℕ) (l : List ℕ) : Type 0 where

@@ -1,14 +1,11 @@
 -- What the functions of a picture do, and that they can be written and request nothing.
-use Rattle.std.proofs.Common.{◌≡◌, ℕ, suc, ◌+◌, ◌-◌, ◌<◌, ◌≤◌, min, max, Bool, true, false, cond, List, [], ◌∷◌, ◌++◌, map, length, set, replicate, Some, None, sym, refl, ap, ◌∙◌, arith}
+use Rattle.std.proofs.Common.{◌≡◌, ℕ, suc, ◌-◌, ◌≤◌, max, true, false, cond, List, [], ◌∷◌, ◌++◌, map, length, set, replicate, Some, refl, ap, ◌∙◌, arith}
 use Rattle.std.proofs.lemmas.Bool.{cond-true, cond-false}
-use Rattle.std.proofs.lemmas.List.{length-map}
-use Rattle.panel.specs.declared.cell.Cell.{Cell}
 use Rattle.panel.specs.Grids.{Grid, on, index, with_cells}
-use Rattle.reader.specs.Functions.{Function, graphic, control, reset, sequence}
-use Rattle.reader.specs.Steps.{rest}
+use Rattle.reader.specs.Functions.{Function, graphic, control, reset}
 use Rattle.control.specs.declared.rendition.Rendition.{Rendition}
 use Rattle.control.specs.Renditions.{number}
-use Rattle.page.specs.Sheets.{State, Sheet, at, rendered, with_stops, in_modes, on_state}
+use Rattle.page.specs.Sheets.{Sheet, at, rendered, with_stops, in_modes, on_state}
 use Rattle.page.specs.Moves.{inside, right}
 use Rattle.page.specs.Effects.{begun, does, does_all}
 use Rattle.page.proofs.BytesAct.{does_append}

@@ -1,7 +1,5 @@
 -- The functions of a picture make, of a fresh page, the page that it is of.
-use Rattle.std.proofs.Common.{◌≡◌, ℕ, ◌+◌, ◌-◌, ◌*◌, ◌<◌, ◌≤◌, Bool, true, false, cond, List, [], ◌∷◌, ◌++◌, map, length, take, drop, set, replicate, None, sym, refl, ap, ◌∙◌, subst, inl, inr, ⊎_elim, append-nil, zero-mul, arith, drop_of_length-le}
-use lib.ListN.{length-replicate}
-use Rattle.std.proofs.lemmas.List.FromFn.{length-map-range_with_len}
+use Rattle.std.proofs.Common.{◌≡◌, ℕ, ◌+◌, ◌-◌, ◌*◌, ◌<◌, ◌≤◌, Bool, true, false, List, [], ◌∷◌, ◌++◌, map, length, set, replicate, None, sym, refl, ap, ◌∙◌, inl, inr, append-nil, zero-mul, arith, drop_of_length-le}
 use Rattle.std.proofs.lemmas.Bool.{true≢false, cond-true, and_from, le-leb}
 use Rattle.std.specs.List.{range_with_len}
 use Rattle.panel.specs.declared.cell.Cell.{Cell}
@@ -9,9 +7,8 @@ use Rattle.panel.specs.Grids.{Grid, erased, within, index_in, run_on, wiped, wit
 use Rattle.panel.proofs.Places.{true_within}
 use Rattle.reader.specs.Functions.{Function, control}
 use Rattle.reader.specs.Steps.{rest}
-use Rattle.control.specs.declared.rendition.Rendition.{Rendition}
 use Rattle.control.specs.Renditions.{standard}
-use Rattle.page.specs.Sheets.{State, Sheet, at, rendered, with_stops, in_modes, on_state}
+use Rattle.page.specs.Sheets.{Sheet, at, rendered, with_stops, in_modes, on_state}
 use Rattle.page.specs.Stops.{first_stop}
 use Rattle.page.specs.Effects.{begun, does}
 use Rattle.page.specs.Proper.{Proper}

@@ -5,7 +5,6 @@ use Rattle.std.proofs.lemmas.Bool.{true≢false}
 use Rattle.std.proofs.lemmas.Bool.Decides.{nat_tests}
 use Rattle.panel.specs.declared.cell.Cell.{Cell}
 use Rattle.panel.specs.Grids.{erased}
-use Rattle.reader.specs.Bytes.{among}
 use Rattle.picture.specs.Pictures.{foreign, first_foreign}
 
 abbrev from : ℕ → List Cell → Option ℕ

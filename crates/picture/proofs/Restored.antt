@@ -1,12 +1,12 @@
 -- The bytes of a picture make any page of its size, outside an SOS string, the page that it is of.
-use Rattle.std.proofs.Common.{◌≡◌, ℕ, Bool, false, List, [], ◌∷◌, ◌++◌, None, sym, refl, ap, ◌∙◌, ⊎_elim, arith}
+use Rattle.std.proofs.Common.{◌≡◌, ℕ, false, List, [], ◌∷◌, ◌++◌, None, sym, refl, ap, ◌∙◌, ⊎_elim, arith}
 use Rattle.reader.specs.Functions.{Function, reset}
 use Rattle.reader.specs.Steps.{Standing, rest, standing_after, performed}
 use Rattle.reader.specs.Laws.{is_in_sos}
 use Rattle.reader.proofs.Parts.{standing_parts, performed_parts}
 use Rattle.reader.proofs.Standings.{reads_reset}
 use Rattle.page.specs.Sheets.{Sheet, on_state, reading}
-use Rattle.page.specs.Effects.{begun, does_all, run}
+use Rattle.page.specs.Effects.{does_all, run}
 use Rattle.page.proofs.BytesAct.{bytes_act}
 use Rattle.picture.specs.Writing.{written, all_written}
 use Rattle.picture.specs.Writable.{Writable}

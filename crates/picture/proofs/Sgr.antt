@@ -1,6 +1,5 @@
 -- The parameters of SGR make the rendition that they are of, whatever it was before.
-use Rattle.std.proofs.Common.{◌≡◌, ℕ, ◌+◌, ◌≤◌, Bool, true, false, cond, List, [], ◌∷◌, ◌++◌, map, length, Some, sym, refl, ap, ◌∙◌, arith, length-append}
-use Rattle.reader.specs.Functions.{Parameter}
+use Rattle.std.proofs.Common.{◌≡◌, ℕ, ◌+◌, ◌≤◌, Bool, true, false, List, [], ◌∷◌, ◌++◌, map, length, Some, refl, ap, ◌∙◌, arith, length-append}
 use Rattle.control.specs.declared.rendition.Intensity.{Intensity}
 use Rattle.control.specs.declared.rendition.Underline.{Underline}
 use Rattle.control.specs.declared.rendition.Blink.{Blink}

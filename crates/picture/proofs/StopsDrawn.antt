@@ -1,5 +1,5 @@
 -- The stops of a picture, set in order on a page without stops.
-use Rattle.std.proofs.Common.{◌≡◌, ℕ, ◌+◌, ◌<◌, ◌≤◌, Bool, true, false, List, [], ◌∷◌, ◌++◌, length, set, replicate, sym, refl, ap, ◌∙◌, subst, subst₂, append_assoc, arith, length-append}
+use Rattle.std.proofs.Common.{◌≡◌, ℕ, ◌+◌, ◌<◌, ◌≤◌, Bool, true, false, List, [], ◌∷◌, ◌++◌, length, set, replicate, sym, ap, ◌∙◌, subst, subst₂, append_assoc, arith, length-append}
 use Rattle.reader.specs.Functions.{Function}
 use Rattle.page.specs.Sheets.{Sheet}
 use Rattle.picture.specs.Pictures.{stops_from}

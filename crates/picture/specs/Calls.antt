@@ -1,5 +1,5 @@
 -- What reply and picture answer, leave and write.
-use Rattle.std.specs.Prelude.{◌≡◌, ℕ, ◌+◌, ◌/◌, ◌%◌, Bool, cond, List, [], ◌++◌, length, drop, Some, None, Result, nat_le}
+use Rattle.std.specs.Prelude.{◌≡◌, ℕ, ◌+◌, ◌/◌, ◌%◌, cond, List, [], ◌++◌, length, drop, Some, None, Result, nat_le}
 use Rattle.refusal.specs.Table.{Answer, accepted, refused, answer}
 use Rattle.refusal.specs.declared.Refusal.{Refusal}
 use Rattle.refusal.specs.declared.Layer.TheVariants as layer

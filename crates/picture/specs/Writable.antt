@@ -1,5 +1,5 @@
 -- What can be written, so that it is read back.
-use Rattle.std.specs.Prelude.{◌≡◌, ℕ, ◌≤◌, Bool, true, false, not, ◌&&◌, ◌||◌, List, [], ◌∷◌, length, Some, None, ◌==◌, nat_lt}
+use Rattle.std.specs.Prelude.{◌≡◌, ℕ, ◌≤◌, Bool, true, not, ◌&&◌, ◌||◌, List, [], ◌∷◌, length, Some, None, ◌==◌, nat_lt}
 use Rattle.reader.specs.Bytes.{among, isGraphic, isOpener, endsSequence}
 use Rattle.reader.specs.Functions.{Parameter, Function, graphic, control, reset, sequence}
 use Rattle.reader.specs.Steps.{rest, standing_after, performed}

@@ -1,11 +1,11 @@
 -- Where the bytes of an item lead: to rest, or to where what follows is read as from rest.
-use Rattle.std.proofs.Common.{◌≡◌, ℕ, zero, suc, ◌+◌, ◌-◌, ◌<◌, ◌≤◌, Bool, true, false, cond, ◌&&◌, ◌||◌, eqb, ltb, leb, ◌⊎◌, List, [], ◌∷◌, ◌++◌, Some, None, sym, refl, ap, ◌∙◌, subst, inl, inr, ⊎_elim, append_assoc, append-nil, arith}
-use Rattle.std.proofs.lemmas.Bool.{cond-true, cond-false, cond_both, leb-true, eqb-true, and_parts, or_cases, or_parts, or_from, both_ways}
+use Rattle.std.proofs.Common.{◌≡◌, ℕ, ◌-◌, Bool, true, false, cond, ◌&&◌, eqb, leb, ◌⊎◌, List, [], ◌∷◌, ◌++◌, Some, None, sym, refl, ap, ◌∙◌, subst, inl, inr, ⊎_elim, arith}
+use Rattle.std.proofs.lemmas.Bool.{cond-true, cond-false, leb-true, eqb-true, and_parts, or_cases, or_parts, or_from}
 use Rattle.std.proofs.lemmas.Bool.Decides.{nat_tests}
-use Rattle.reader.specs.Bytes.{AllOf, Stops, among, isGraphic, isOpener, isBody, isIntermediate, isParameter, endsEscape, endsSequence}
-use Rattle.reader.specs.Functions.{Function, Parameters, reset}
-use Rattle.reader.specs.Steps.{Standing, Outcome, to, ends, at_rest, sequence_final, step, standing_after, performed, rest, escape, in_parameters, in_intermediates, in_string, in_sos, with_byte}
-use Rattle.reader.specs.Items.{Spells, begins, isBeginning, is_lone, Free}
+use Rattle.reader.specs.Bytes.{AllOf, Stops, among, isGraphic, isOpener, isBody, isIntermediate, isParameter}
+use Rattle.reader.specs.Functions.{Parameters}
+use Rattle.reader.specs.Steps.{Standing, Outcome, to, at_rest, step, standing_after, performed, rest, escape, in_parameters, in_intermediates, in_string, in_sos, with_byte}
+use Rattle.reader.specs.Items.{Spells, begins, is_lone, Free}
 use Rattle.reader.proofs.Parts.{standing_parts}
 
 -- bytes that leave the reader where it stands

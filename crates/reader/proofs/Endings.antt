@@ -1,17 +1,17 @@
 -- Where the reader stands behind an item.
-use Rattle.std.proofs.Common.{◌≡◌, ℕ, ◌+◌, Bool, true, false, cond, ◌&&◌, ◌||◌, eqb, ◌⊎◌, List, [], ◌∷◌, ◌++◌, Some, None, sym, refl, ap, ◌∙◌, subst, inl, inr, ⊎_elim, append_assoc, arith}
+use Rattle.std.proofs.Common.{◌≡◌, ℕ, ◌+◌, Bool, true, false, cond, ◌&&◌, eqb, List, [], ◌∷◌, ◌++◌, Some, None, sym, refl, ap, ◌∙◌, subst, inl, inr, ⊎_elim, append_assoc, arith}
 use Rattle.std.proofs.lemmas.Bool.{cond-true, cond-false, cond_both, eqb-true, and_parts, or_cases, both_ways}
 use Rattle.std.proofs.lemmas.Bool.Decides.{nat_tests}
 use Rattle.reader.specs.declared.item.Kind.{Kind}
 use Rattle.reader.specs.declared.item.Kind.TheVariants.{Text, Control, Escape, Sequence, String, Broken, Rest}
 use Rattle.reader.specs.Bytes.{AllOf, among, isGraphic, isBody, isOpener, isIntermediate, isParameter, endsEscape, endsSequence}
-use Rattle.reader.specs.Functions.{Function, Parameters, reset}
-use Rattle.reader.specs.Steps.{Standing, Outcome, to, ends, at_rest, sequence_final, step, standing_after, performed, rest, escape, in_parameters, in_intermediates, in_string, in_sos, is_at_rest}
+use Rattle.reader.specs.Functions.{Parameters, reset}
+use Rattle.reader.specs.Steps.{Standing, Outcome, to, ends, at_rest, sequence_final, step, standing_after, performed, rest, escape, in_string, in_sos, is_at_rest}
 use Rattle.reader.specs.Items as item
 use Rattle.reader.specs.Items.{Spells, begins, isBeginning, is_lone, Free, Sequenced, Enclosed, Begun, Cuts, Awaiting, Form}
 use Rattle.reader.specs.Performs.{is_rest}
 use Rattle.reader.proofs.Parts.{standing_parts}
-use Rattle.reader.proofs.Agree.{stays, rest_graphic, escape_between, string_body, rest_lone, sos_leads, opener_leads, string_ends, sos_ends, sos_body, After, none, some, standing_three, sequence_leads, escape_leads}
+use Rattle.reader.proofs.Agree.{stays, rest_graphic, escape_between, string_body, rest_lone, sos_leads, opener_leads, string_ends, sos_ends, sos_body, After, none, some, sequence_leads, escape_leads}
 
 -- what follows is read as from rest
 pub record LikeRest (s : Standing) (r : List ℕ) : Type 0 where

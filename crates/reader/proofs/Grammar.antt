@@ -1,15 +1,14 @@
 -- What the single steps perform on an item is what its grammar says.
-use Rattle.std.proofs.Common.{◌≡◌, ℕ, ◌+◌, Bool, true, false, cond, ◌&&◌, ◌||◌, eqb, ◌⊎◌, ◌↔◌, List, [], ◌∷◌, ◌++◌, map, Some, None, sym, refl, ap, ◌∙◌, subst, inl, inr, append_assoc, append-nil, arith}
-use Rattle.std.proofs.lemmas.Bool.{cond-true, cond-false, cond_both, both_ways}
+use Rattle.std.proofs.Common.{◌≡◌, ℕ, ◌+◌, Bool, true, false, cond, eqb, List, [], ◌∷◌, ◌++◌, map, Some, None, sym, refl, ap, ◌∙◌, inl, inr, append_assoc, append-nil, arith}
+use Rattle.std.proofs.lemmas.Bool.{cond-true, cond-false, both_ways}
 use Rattle.std.proofs.lemmas.Bool.Decides.{nat_tests}
-use Rattle.reader.specs.declared.item.Kind.{Kind}
 use Rattle.reader.specs.declared.item.Kind.TheVariants.{Text, Control, Escape, Sequence, String, Broken, Rest}
 use Rattle.reader.specs.Bytes.{AllOf, among, isGraphic, isBody, isOpener, isIntermediate, isParameter, endsEscape}
-use Rattle.reader.specs.Functions.{Function, Parameters, graphic, control, reset}
-use Rattle.reader.specs.Steps.{Standing, Outcome, to, ends, at_rest, resting, step, standing_after, performed, rest, escape, in_parameters, in_intermediates, in_string, in_sos}
+use Rattle.reader.specs.Functions.{Function, Parameters, graphic, reset}
+use Rattle.reader.specs.Steps.{Standing, Outcome, to, ends, at_rest, step, standing_after, performed, rest, escape, in_parameters, in_intermediates, in_string, in_sos}
 use Rattle.reader.specs.Items as item
 use Rattle.reader.specs.Items.{Spells, isBeginning, is_lone, Free, Enclosed, Begun, Awaiting, Form}
-use Rattle.reader.specs.Performs.{control_performs, escape_performs, item_performs, ItemsPerform}
+use Rattle.reader.specs.Performs.{control_performs, escape_performs, ItemsPerform}
 use Rattle.reader.proofs.Parts.{performed_parts}
 use Rattle.reader.proofs.Strings.{reads_numbers}
 use Rattle.reader.proofs.Agree.{csi_leads, each_opener, opener_leads, sos_leads, sos_body, first_between}

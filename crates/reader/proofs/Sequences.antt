@@ -1,10 +1,10 @@
 -- What a whole sequence performs.
-use Rattle.std.proofs.Common.{◌≡◌, ℕ, Bool, true, false, cond, eqb, List, [], ◌∷◌, ◌++◌, Some, None, sym, refl, ap, ◌∙◌, inl, inr, arith}
+use Rattle.std.proofs.Common.{◌≡◌, ℕ, true, false, cond, eqb, List, [], ◌∷◌, ◌++◌, Some, None, refl, ap, ◌∙◌, inl, inr, arith}
 use Rattle.std.proofs.lemmas.Bool.{cond-true, cond-false}
 use Rattle.std.proofs.lemmas.Bool.Decides.{nat_tests}
 use Rattle.reader.specs.Bytes.{AllOf, isParameter, isIntermediate, endsSequence}
-use Rattle.reader.specs.Functions.{Parameters, Function, sequence}
-use Rattle.reader.specs.Steps.{Standing, Outcome, to, at_rest, sequence_final, step, standing_after, performed, rest, in_parameters, in_intermediates}
+use Rattle.reader.specs.Functions.{Parameters, sequence}
+use Rattle.reader.specs.Steps.{Standing, Outcome, to, at_rest, sequence_final, step, performed, rest, in_parameters, in_intermediates}
 use Rattle.reader.specs.Numbers.{numbers, sequence_performs}
 use Rattle.reader.specs.Items.{Spells}
 use Rattle.reader.proofs.Parts.{performed_parts}

@@ -1,9 +1,9 @@
 -- Standings that perform alike are equal, and RIS is read from every standing but those of an SOS string.
-use Rattle.std.proofs.Common.{◌≡◌, ℕ, Bool, true, false, List, [], ◌∷◌, Some, None, sym, refl, ap, ◌∙◌, subst}
+use Rattle.std.proofs.Common.{◌≡◌, Bool, true, false, List, [], ◌∷◌, Some, None, sym, refl, ap, ◌∙◌}
 use Rattle.std.proofs.lemmas.Bool.{both_ways}
 use Rattle.reader.specs.Functions.{Parameter, Function, graphic, control, reset, sequence}
-use Rattle.reader.specs.Steps.{Standing, at_rest, rest, escape, in_parameters, in_intermediates, in_string, in_sos, standing_after, performed}
-use Rattle.reader.specs.Laws.{is_in_sos, ReadsReset, StandingsDiffer}
+use Rattle.reader.specs.Steps.{Standing, at_rest, rest, escape, in_parameters, in_intermediates, in_string, in_sos, performed}
+use Rattle.reader.specs.Laws.{ReadsReset, StandingsDiffer}
 
 pub reads_reset : ReadsReset
 unfolding at_rest

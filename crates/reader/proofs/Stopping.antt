@@ -1,8 +1,8 @@
 -- Where a delivery stops is the one place behind its first request.
-use Rattle.std.proofs.Common.{◌≡◌, ℕ, zero, suc, ◌+◌, ◌<◌, ◌≤◌, Bool, true, false, ◌||◌, ◌⊎◌, List, [], ◌∷◌, ◌++◌, length, get_or, take, drop, sym, refl, ap, ◌∙◌, subst, inl, inr, ⊎_elim, append-nil, le_of_suc-le-suc, not-suc-le-zero, add-one, arith, drop_of_length-le, take_all, drop-cons}
+use Rattle.std.proofs.Common.{◌≡◌, ℕ, zero, suc, ◌+◌, ◌<◌, ◌≤◌, Bool, true, false, ◌||◌, List, [], ◌∷◌, ◌++◌, length, get_or, take, drop, sym, refl, ap, ◌∙◌, inl, inr, ⊎_elim, append-nil, le_of_suc-le-suc, not-suc-le-zero, add-one, arith, drop_of_length-le, drop-cons}
 use Rattle.std.proofs.lemmas.Bool.{both_ways, cases_lt}
 use Rattle.reader.specs.Functions.{Function}
-use Rattle.reader.specs.Steps.{Standing, step, standing_after, performed}
+use Rattle.reader.specs.Steps.{Standing, step, performed}
 use Rattle.reader.specs.Requests.{requests, any_requests, until_request, FirstRequest}
 use Rattle.reader.specs.Laws.{StopsAtRequest}
 

@@ -1,5 +1,5 @@
 -- The whole walk: the items of all the bytes, and what they perform.
-use Rattle.std.proofs.Common.{◌≡◌, ℕ, zero, suc, ◌+◌, ◌-◌, ◌<◌, ◌≤◌, Bool, true, false, ◌↔◌, List, [], ◌∷◌, ◌++◌, length, drop, sym, refl, ap, ◌∙◌, subst, append-nil, arith, length-append}
+use Rattle.std.proofs.Common.{◌≡◌, ℕ, ◌+◌, ◌≤◌, true, false, ◌↔◌, List, [], ◌∷◌, ◌++◌, length, drop, sym, refl, ap, ◌∙◌, subst, append-nil, arith, length-append}
 use Rattle.std.proofs.lemmas.Bool.{both_ways}
 use Rattle.reader.specs.declared.item.Item.{Item}
 use Rattle.reader.specs.declared.item.Kind.{Kind}
@@ -8,9 +8,9 @@ use Rattle.reader.specs.Functions.{Function}
 use Rattle.reader.specs.Steps.{Standing, rest, is_at_rest, standing_after, performed}
 use Rattle.reader.specs.Items.{Form}
 use Rattle.reader.specs.Walks.{Handed, spelling}
-use Rattle.reader.specs.Performs.{Part, Cut, item_performs, cut_performs, CutsPerform, is_rest, unfinished, RestIsUnfinished}
+use Rattle.reader.specs.Performs.{Part, Cut, item_performs, CutsPerform, is_rest, unfinished, RestIsUnfinished}
 use Rattle.reader.proofs.Parts.{standing_parts, performed_parts}
-use Rattle.reader.proofs.Endings.{LikeRest, behind_item, rest_unrested}
+use Rattle.reader.proofs.Endings.{behind_item, rest_unrested}
 use Rattle.reader.proofs.Grammar.{items_perform}
 use Rattle.reader.proofs.Walk.{item_some}
 

@@ -1,7 +1,7 @@
 -- The laws of reading.
 use Rattle.std.specs.Prelude.{◌≡◌, ℕ, Bool, true, false, List, [], ◌∷◌, ◌++◌, Some}
 use Rattle.reader.specs.Bytes.{AllOf, isParameter}
-use Rattle.reader.specs.Functions.{Function, reset}
+use Rattle.reader.specs.Functions.{reset}
 use Rattle.reader.specs.Steps.{Standing, rest, escape, in_parameters, in_intermediates, in_string, in_sos, standing_after, performed}
 use Rattle.reader.specs.Numbers.{numbers}
 use Rattle.reader.specs.Requests.{until_request, FirstRequest}

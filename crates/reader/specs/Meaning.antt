@@ -1,5 +1,5 @@
 -- What the code's values mean.
-use Rattle.std.specs.Prelude.{ℕ, List, [], take, Option}
+use Rattle.std.specs.Prelude.{List, take, Option}
 use Rattle.std.specs.Option.{option_map, option_to_list}
 use Rattle.reader.specs.declared.parameters.Parameters as code
 use Rattle.reader.specs.declared.standing.Standing as code_standing

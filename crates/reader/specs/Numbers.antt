@@ -1,5 +1,5 @@
 -- What a whole parameter string says, and what a whole sequence performs.
-use Rattle.std.specs.Prelude.{ℕ, ◌+◌, ◌-◌, ◌*◌, min, Bool, true, false, cond, ◌&&◌, ◌||◌, List, [], ◌∷◌, map, length, Some, None, Option, ◌==◌, nat_le}
+use Rattle.std.specs.Prelude.{ℕ, ◌+◌, ◌-◌, ◌*◌, min, Bool, true, false, cond, ◌&&◌, ◌||◌, List, [], ◌∷◌, map, length, Some, None, ◌==◌, nat_le}
 use Rattle.reader.specs.Bytes.{isDigit, isSeparator}
 use Rattle.reader.specs.Functions.{Parameter, Parameters, Function, sequence}
 

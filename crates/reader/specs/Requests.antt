@@ -1,5 +1,5 @@
 -- Where a delivery of bytes stops: behind the first byte that requests a reply.
-use Rattle.std.specs.Prelude.{◌≡◌, ℕ, suc, ◌<◌, ◌≤◌, Bool, true, false, not, ◌&&◌, ◌||◌, ◌⊎◌, List, [], ◌∷◌, length, take, Some, None, Option, ◌==◌}
+use Rattle.std.specs.Prelude.{◌≡◌, ℕ, suc, ◌<◌, ◌≤◌, Bool, true, false, not, ◌&&◌, ◌||◌, ◌⊎◌, List, [], ◌∷◌, length, take, Some, None, ◌==◌}
 use Rattle.reader.specs.Functions.{Parameter, Function, graphic, control, reset, sequence}
 use Rattle.reader.specs.Steps.{Standing, step, performed}
 

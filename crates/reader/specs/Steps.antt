@@ -1,5 +1,5 @@
 -- How bytes are read, one by one: where the reader stands, and what a byte does there.
-use Rattle.std.specs.Prelude.{ℕ, ◌+◌, ◌-◌, ◌*◌, min, Bool, true, false, cond, ◌&&◌, ◌||◌, List, [], ◌∷◌, ◌++◌, length, Some, None, Option, ◌==◌, nat_le}
+use Rattle.std.specs.Prelude.{ℕ, ◌+◌, ◌-◌, ◌*◌, min, Bool, true, false, cond, ◌&&◌, ◌||◌, List, [], ◌∷◌, ◌++◌, length, Some, None, ◌==◌, nat_le}
 use Rattle.reader.specs.Bytes.{among, isGraphic, isIntermediate, isParameter, isDigit, isSeparator, endsEscape, endsSequence, isOpener, isBody}
 use Rattle.reader.specs.Functions.{Parameter, Parameters, Function, graphic, control, reset, sequence}
 

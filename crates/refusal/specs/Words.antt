@@ -1,5 +1,5 @@
 -- What is printed of a refusal: its number, its word, its layer and its place, parted by spaces.
-use Rattle.std.specs.Prelude.{ℕ, List, [], ◌∷◌, ◌++◌, codes, decimal}
+use Rattle.std.specs.Prelude.{ℕ, List, ◌++◌, codes, decimal}
 use Rattle.refusal.specs.declared.Layer.{Layer}
 use Rattle.refusal.specs.declared.Layer.TheVariants.{Panel, Writer, Page}
 use Rattle.refusal.specs.declared.Place.{Place}

@@ -1,5 +1,5 @@
 -- Equal pages agree after turns that took the same bytes.
-use Rattle.std.proofs.Common.{◌≡◌, ℕ, List, length, sym, refl, ap, ◌∙◌, subst}
+use Rattle.std.proofs.Common.{◌≡◌, List, length, sym, ap, ◌∙◌}
 use Rattle.page.specs.Plain.{Plain, OnPanel}
 use Rattle.turns.specs.Turns.{Turn, after, taken_in, sent_in}
 use Rattle.turns.specs.Running.{turned, Agree}

@@ -2,7 +2,7 @@
 use Rattle.std.proofs.Common.{◌≡◌, ℕ, Bool, true, false, cond, ltb, List, [], ◌∷◌, None, sym, refl, ap, ◌∙◌}
 use Rattle.panel.specs.declared.shifting.Direction.TheVariants as way
 use Rattle.reader.specs.Functions.{Parameter, Function}
-use Rattle.reader.specs.Steps.{Outcome, step}
+use Rattle.reader.specs.Steps.{step}
 use Rattle.control.specs.declared.function.Control.{Control}
 use Rattle.control.specs.declared.function.Control.TheVariants as c
 use Rattle.control.specs.declared.function.Extent.TheVariants as extent
@@ -11,7 +11,7 @@ use Rattle.control.specs.Decoding.{decoded, values}
 use Rattle.page.specs.Sheets.{Sheet, on_state, owing, reading}
 use Rattle.page.specs.Moves.{up, down, to_first_column}
 use Rattle.page.specs.Cells.{moved, line_rest, set_character, scroll}
-use Rattle.page.specs.Effects.{effect, does, does_all, acts, stepped}
+use Rattle.page.specs.Effects.{effect, does, does_all, stepped}
 
 -- nothing owed
 abbrev pub free : Sheet → Sheet

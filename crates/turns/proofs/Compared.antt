@@ -1,5 +1,5 @@
 -- The ways out of comparing two pages.
-use Rattle.std.proofs.Common.{◌≡◌, ℕ, Bool, true, List, length, take, IsErrAnd, Ok, Err, Decides, Result, sym, refl, ap, ◌∙◌}
+use Rattle.std.proofs.Common.{◌≡◌, ℕ, Bool, List, length, take, IsErrAnd, Ok, Err, Decides, Result, sym, refl, ap, ◌∙◌}
 use Rattle.refusal.specs.declared.Refusal.{Refusal}
 use Rattle.refusal.specs.Table.{Answer, accepted, answer}
 use Rattle.page.specs.Plain.{Plain}

@@ -1,24 +1,22 @@
 -- The ways out of copying a page.
-use Rattle.std.proofs.Common.{◌≡◌, ℕ, ◌≤◌, Bool, true, false, cond, ◌&&◌, eqb, leb, List, [], ◌∷◌, ◌++◌, length, take, drop, IsErrAnd, Ok, Err, Result, sym, refl, ap, ◌∙◌, subst, arith, MatchResult}
-use Rattle.std.proofs.lemmas.Bool.{cond_both, and_parts, eqb-true, both_ways}
-use Rattle.std.proofs.lemmas.Result.{err_from_is_err_and}
+use Rattle.std.proofs.Common.{◌≡◌, ℕ, Bool, true, false, cond, eqb, List, [], ◌∷◌, length, take, IsErrAnd, Ok, Err, Result, sym, refl, ap, ◌∙◌, arith}
+use Rattle.std.proofs.lemmas.Bool.{and_parts, eqb-true, both_ways}
 use Rattle.refusal.specs.declared.Refusal.{Refusal}
-use Rattle.refusal.specs.Table.{Answer, accepted, refused, answer, number, layer, place, is_accepted}
-use Rattle.panel.specs.Grids.{Grid, Whole}
+use Rattle.refusal.specs.Table.{Answer, accepted, answer, is_accepted}
+use Rattle.panel.specs.Grids.{Grid}
 use Rattle.reader.specs.Laws.{is_in_sos}
 use Rattle.reader.specs.Requests.{any_requests}
 use Rattle.reader.specs.Steps.{performed}
-use Rattle.page.specs.Proper.{Proper}
 use Rattle.page.specs.Plain.{Plain, OnPanel, known, owes, after_bytes, page_refuses, leaves}
 use Rattle.page.proofs.Parts.{known_fits}
 use Rattle.picture.specs.Pictures.{picture_bytes}
-use Rattle.picture.specs.Calls.{Outcome, Does, pictures}
-use Rattle.turns.specs.Turns.{turn, picture}
+use Rattle.picture.specs.Calls.{Does, pictures}
+use Rattle.turns.specs.Turns.{turn}
 use Rattle.turns.specs.Laws.{Admitted, SameSize}
 use Rattle.turns.specs.Running.{count_of}
 use Rattle.picture.specs.Tape.{over}
 use Rattle.turns.specs.Copying.{unless_refused, same_size, size_answer, takes_picture, copy_answer, Copies}
-use Rattle.turns.proofs.Kept.{Counted, pictures_counted, front_written}
+use Rattle.turns.proofs.Kept.{pictures_counted, front_written}
 use Rattle.turns.proofs.Restoring.{Accepted, pictured, ready, makes}
 use Rattle.turns.proofs.Quiet.{picture_silent}
 

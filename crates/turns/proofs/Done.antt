@@ -1,11 +1,11 @@
 -- What one turn does: nothing, or it takes bytes, or it sends a reply.
-use Rattle.std.proofs.Common.{◌≡◌, ℕ, ◌+◌, ◌/◌, ◌%◌, ◌≤◌, Bool, true, false, cond, leb, List, [], ◌∷◌, ◌++◌, length, take, Some, None, Option, sym, refl, ap, ◌∙◌, subst}
+use Rattle.std.proofs.Common.{◌≡◌, ℕ, ◌+◌, ◌/◌, ◌%◌, Bool, true, false, cond, leb, List, [], ◌∷◌, length, take, Some, None, Option, refl, ap}
 use Rattle.std.proofs.lemmas.Bool.{cond_both}
 use Rattle.refusal.specs.Table.{Answer, accepted, refused}
 use Rattle.refusal.specs.declared.Layer.TheVariants as layer
 use Rattle.refusal.specs.declared.Place.TheVariants.{Length, At}
 use Rattle.reader.specs.Steps.{is_at_rest}
-use Rattle.page.specs.Plain.{Plain, known, owes, settled, taken, after_bytes, page_refuses, deliver_answer, delivered, by_delivery}
+use Rattle.page.specs.Plain.{Plain, known, owes, settled, taken, after_bytes, page_refuses}
 use Rattle.page.proofs.Deliveries.{taken_count}
 use Rattle.picture.specs.Pictures.{reply_bytes, picture_bytes, first_foreign}
 use Rattle.picture.specs.Calls.{Outcome, refuses, fronts, replies, pictures, draws}

@@ -1,27 +1,20 @@
 -- Bytes that request no reply, delivered in parts; and what a picture's answer tells.
-use Rattle.std.proofs.Common.{◌≡◌, ℕ, suc, ◌+◌, ◌/◌, ◌%◌, ◌≤◌, Bool, true, false, cond, ◌&&◌, ◌||◌, eqb, leb, List, [], ◌∷◌, ◌++◌, length, take, drop, is_some, Ok, Err, Result, sym, refl, ap, ◌∙◌, subst, ⊎_elim, arith}
-use Rattle.std.proofs.lemmas.List.{take_all, take_at}
-use Rattle.std.proofs.lemmas.Bool.{and_parts, eqb-true}
-use Rattle.refusal.specs.declared.Refusal.{Refusal}
-use Rattle.refusal.specs.Table.{Answer, accepted, refused, answer}
-use Rattle.panel.specs.Grids.{Grid, Whole}
-use Rattle.reader.specs.Functions.{Function, reset}
-use Rattle.reader.specs.Steps.{Standing, rest, step, standing_after, performed}
+use Rattle.std.proofs.Common.{◌≡◌, ℕ, suc, ◌≤◌, Bool, true, false, cond, ◌||◌, List, [], ◌∷◌, ◌++◌, length, is_some, sym, refl, ap, ◌∙◌, ⊎_elim, arith}
+use Rattle.std.proofs.lemmas.List.{take_all}
+use Rattle.reader.specs.Functions.{Function}
+use Rattle.reader.specs.Steps.{Standing, step, standing_after, performed}
 use Rattle.reader.specs.Requests.{requests, any_requests, until_request}
 use Rattle.reader.specs.Laws.{is_in_sos}
-use Rattle.reader.proofs.Parts.{standing_parts, performed_parts}
-use Rattle.reader.proofs.Standings.{reads_reset}
+use Rattle.reader.proofs.Parts.{performed_parts}
 use Rattle.reader.proofs.Stopping.{request_later}
-use Rattle.page.specs.Sheets.{Sheet, on_state}
+use Rattle.page.specs.Sheets.{Sheet}
 use Rattle.page.specs.Effects.{stepped, run}
-use Rattle.page.specs.Plain.{Plain, OnPanel, known, owes, taken, after_bytes, delivered, leaves}
+use Rattle.page.specs.Plain.{Plain, OnPanel, known, owes, after_bytes, delivered, leaves}
 use Rattle.page.proofs.Deliveries.{delivered_goes}
 use Rattle.page.proofs.Parts.{after_known}
 use Rattle.page.proofs.Stepping.{stepped_standing, stepped_owes}
-use Rattle.picture.specs.Writing.{written, all_written}
-use Rattle.picture.specs.Writable.{Writable, Each}
+use Rattle.picture.specs.Writable.{Each}
 use Rattle.picture.specs.Pictures.{drawing, picture_bytes}
-use Rattle.picture.specs.Calls.{Outcome, Does, pictures}
 use Rattle.picture.proofs.CellsDrawn.{Fine, Drawn}
 use Rattle.reader.proofs.Stopping.{any_append}
 use Rattle.picture.proofs.Drawn.{Ready, each}

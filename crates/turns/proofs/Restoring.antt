@@ -1,7 +1,7 @@
 -- Pictures over lists of turns: an accepted picture restores its page, and tells it from others.
-use Rattle.std.proofs.Common.{◌≡◌, ℕ, ◌+◌, ◌*◌, ◌/◌, ◌%◌, ◌≤◌, Bool, true, false, cond, ◌&&◌, eqb, leb, List, [], ◌∷◌, ◌++◌, length, is_some, Some, None, Option, sym, refl, ap, ◌∙◌, subst, arith}
+use Rattle.std.proofs.Common.{◌≡◌, ℕ, ◌+◌, ◌/◌, ◌%◌, Bool, true, false, cond, leb, List, [], ◌∷◌, ◌++◌, length, is_some, Some, None, Option, sym, refl, ap, ◌∙◌, arith}
 use Rattle.std.proofs.lemmas.Bool.{cond_both, both_ways, and_parts}
-use Rattle.refusal.specs.Table.{Answer, accepted, refused, is_accepted}
+use Rattle.refusal.specs.Table.{accepted, refused, is_accepted}
 use Rattle.refusal.specs.declared.Layer.{Layer}
 use Rattle.refusal.specs.declared.Layer.TheVariants as layer
 use Rattle.refusal.specs.declared.Place.{Place}
@@ -11,15 +11,15 @@ use Rattle.reader.specs.Steps.{Standing, rest, escape, in_parameters, in_interme
 use Rattle.reader.specs.Laws.{is_in_sos}
 use Rattle.page.specs.Sheets.{Sheet}
 use Rattle.page.specs.Effects.{stepped, run}
-use Rattle.page.specs.Plain.{Plain, known, owes, settled, taken, after_bytes}
+use Rattle.page.specs.Plain.{Plain, known, owes, after_bytes}
 use Rattle.page.proofs.Parts.{known_fits}
 use Rattle.picture.specs.Pictures.{picture_bytes, first_foreign, foreign}
-use Rattle.picture.specs.Calls.{Outcome, refuses, fronts, pictures, draws}
+use Rattle.picture.specs.Calls.{Outcome, refuses, fronts}
 use Rattle.picture.proofs.CellsDrawn.{Fine}
 use Rattle.picture.proofs.Drawn.{Ready}
 use Rattle.picture.proofs.Restored.{restored}
 use Rattle.turns.specs.Turns.{Turn, picture, turn, after, taken_in, sent_in, took, gave}
-use Rattle.turns.specs.Laws.{Admitted, SameSize, Pictured, PictureRestores, PicturesTellPages}
+use Rattle.turns.specs.Laws.{Admitted, SameSize, PictureRestores, PicturesTellPages}
 use Rattle.turns.proofs.Done.{Done, nothing, bytes, sends, turn_done}
 use Rattle.turns.proofs.SoFar.{none_owed}
 

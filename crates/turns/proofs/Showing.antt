@@ -1,24 +1,23 @@
 -- Turns from a start show the items of the bytes that they took.
-use Rattle.std.proofs.Common.{◌≡◌, ℕ, ◌+◌, Bool, true, false, cond, ◌||◌, List, [], ◌∷◌, ◌++◌, length, is_some, Some, None, Option, sym, refl, ap, ◌∙◌, subst, append_assoc, append-nil, add_assoc, arith, length-append}
+use Rattle.std.proofs.Common.{◌≡◌, ℕ, ◌+◌, Bool, true, false, cond, ◌||◌, List, [], ◌∷◌, ◌++◌, length, is_some, sym, refl, ap, ◌∙◌, subst, append_assoc, append-nil, add_assoc, arith, length-append}
 use Rattle.std.proofs.lemmas.Bool.{both_ways}
 use Rattle.control.specs.declared.function.Control.{Control}
-use Rattle.control.specs.declared.function.Control.TheVariants as c
 use Rattle.control.specs.Decoding.{decoded, values}
 use Rattle.reader.specs.Functions.{Function}
 use Rattle.reader.specs.Steps.{Standing, Outcome, rest, step, performed}
 use Rattle.reader.specs.Requests.{requests, any_requests}
 use Rattle.reader.proofs.Whole.{cuts_perform}
 use Rattle.page.specs.Sheets.{Sheet, on_state, owing, reading}
-use Rattle.page.specs.Effects.{begun, effect, does, acts, stepped, run}
+use Rattle.page.specs.Effects.{effect, does, acts, stepped, run}
 use Rattle.page.specs.Plain.{Plain, owes, settled, after_bytes, started_page}
 use Rattle.page.proofs.Shapes.{Shape, quiet, whole, step_shape}
 use Rattle.page.proofs.Kept.{Left, keeps, begins, owes as left_owes, effect_leaves}
 use Rattle.page.proofs.Stepping.{stepped_standing, stepped_owes}
 use Rattle.page.proofs.BytesAct.{shows_items}
-use Rattle.turns.specs.Turns.{Turn, after, taken_in, sent_in}
-use Rattle.turns.specs.Laws.{requested, shown_by, Shows, RunsShowItems}
+use Rattle.turns.specs.Turns.{after, taken_in, sent_in}
+use Rattle.turns.specs.Laws.{requested, shown_by, RunsShowItems}
 use Rattle.turns.proofs.Blind.{free, stepped_blind}
-use Rattle.turns.proofs.SoFar.{SoFar, begins as so_far_none, all_turns, runs, made, next, pending, pending_of, owed_count}
+use Rattle.turns.proofs.SoFar.{begins as so_far_none, all_turns, runs, made, next, pending, pending_of, owed_count}
 
 -- a request is owed whatever was owed before it
 done_owed : (f : Function) (x : Sheet) → is_some (does f (free x)).state.owed ≡ true → (does f (free x)).state.owed ≡ (does f x).state.owed

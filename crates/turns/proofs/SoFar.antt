@@ -1,13 +1,12 @@
 -- What turns come to, from a first page: the bytes taken settle the page but for what is owed, and the replies.
-use Rattle.std.proofs.Common.{◌≡◌, ℕ, suc, ◌+◌, Bool, true, false, cond, List, [], ◌∷◌, ◌++◌, length, take, is_some, Some, None, Option, sym, refl, ap, ◌∙◌, subst, append_assoc, append-nil, arith}
+use Rattle.std.proofs.Common.{◌≡◌, ℕ, Bool, true, false, cond, List, [], ◌∷◌, ◌++◌, length, take, is_some, Some, None, Option, sym, refl, ap, ◌∙◌, subst, append_assoc, append-nil, arith}
 use Rattle.std.proofs.lemmas.Bool.{both_ways}
 use Rattle.control.specs.declared.function.Report.{Report}
-use Rattle.reader.specs.Steps.{Standing}
 use Rattle.reader.specs.Requests.{until_request}
-use Rattle.page.specs.Sheets.{State, Sheet, on_state, owing}
+use Rattle.page.specs.Sheets.{State, on_state, owing}
 use Rattle.page.specs.Effects.{stepped, run}
-use Rattle.page.specs.Plain.{Plain, known, owes, settled, taken_at, taken, after_bytes}
-use Rattle.page.proofs.Deliveries.{fed, last_byte, one_byte}
+use Rattle.page.specs.Plain.{Plain, owes, settled, taken, after_bytes}
+use Rattle.page.proofs.Deliveries.{last_byte, one_byte}
 use Rattle.picture.specs.Pictures.{reply_bytes}
 use Rattle.picture.specs.Calls.{Outcome}
 use Rattle.turns.specs.Turns.{Turn, turn, took, gave, after, taken_in, sent_in}

@@ -1,33 +1,29 @@
 -- A page that only turns have touched has no foreign cell.
-use Rattle.std.proofs.Common.{◌≡◌, ℕ, ◌+◌, ◌*◌, ◌/◌, ◌%◌, ◌<◌, ◌≤◌, Bool, true, false, cond, not, ◌&&◌, ◌||◌, eqb, leb, List, [], ◌∷◌, ◌++◌, length, replicate, is_some, Some, None, Option, sym, refl, ap, ◌∙◌, subst, append-nil, arith}
+use Rattle.std.proofs.Common.{◌≡◌, ℕ, ◌+◌, ◌*◌, ◌/◌, ◌%◌, ◌<◌, Bool, true, false, cond, not, eqb, leb, List, [], ◌∷◌, length, is_some, Some, None, Option, sym, refl, ap, subst, arith}
 use Rattle.std.proofs.lemmas.Bool.{cond_both, both_ways}
 use Rattle.std.proofs.lemmas.Bool.Decides.{nat_tests}
 use Rattle.refusal.specs.Table.{Answer, accepted, refused}
-use Rattle.refusal.specs.declared.Layer.{Layer}
 use Rattle.refusal.specs.declared.Layer.TheVariants as layer
-use Rattle.refusal.specs.declared.Place.{Place}
 use Rattle.refusal.specs.declared.Place.TheVariants.{Length, At}
 use Rattle.panel.specs.declared.cell.Cell.{Cell}
 use Rattle.panel.specs.Grids.{Grid, Whole, erased}
 use Rattle.panel.proofs.Places.{within_true}
 use Rattle.reader.specs.Bytes.{isGraphic}
-use Rattle.reader.specs.Functions.{Function, graphic, control, reset, sequence}
+use Rattle.reader.specs.Functions.{Function}
 use Rattle.reader.specs.Steps.{Outcome, rest, is_at_rest, step}
-use Rattle.control.specs.declared.rendition.Rendition.{Rendition}
-use Rattle.control.specs.declared.function.Control.{Control}
 use Rattle.control.specs.declared.function.Control.TheVariants as c
 use Rattle.control.specs.Renditions.{number}
 use Rattle.control.specs.Decoding.{decoded, values}
 use Rattle.control.proofs.Numbers.{numbers_name_renditions}
 use Rattle.page.specs.Sheets.{Sheet, on_state, reading}
-use Rattle.page.specs.Effects.{begun, does, acts, stepped, run}
-use Rattle.page.specs.Plain.{Plain, known, owes, settled, after_bytes, taken, startable, started_page, page_refuses}
+use Rattle.page.specs.Effects.{does, acts, stepped, run}
+use Rattle.page.specs.Plain.{Plain, known, owes, taken, startable, started_page}
 use Rattle.page.proofs.Shapes.{Shape, quiet, whole, Read, step_shape}
 use Rattle.page.proofs.Every.{Every, every_replicate, every_erase}
 use Rattle.page.proofs.Owing.{drawn_is_graphic}
-use Rattle.page.proofs.Kept.{Kept, Left, keeps, begins, owes as left_owes, SameSize, effect_leaves, erase_size}
+use Rattle.page.proofs.Kept.{Left, keeps, begins, owes as left_owes, effect_leaves}
 use Rattle.picture.specs.Pictures.{foreign, first_foreign, picture_bytes}
-use Rattle.picture.specs.Calls.{Outcome as Called, refuses, fronts, pictures, draws}
+use Rattle.picture.specs.Calls.{Outcome as Called, refuses, fronts}
 use Rattle.picture.proofs.Drawn.{begun_cells}
 use Rattle.turns.specs.Turns.{Turn, picture, turn, after}
 use Rattle.turns.specs.Laws.{NeverForeign}

@@ -1,7 +1,7 @@
 -- Nine cases on a page of 2 lines and 5 columns that was just started: what a delivery of bytes answers and leaves, and what a reply and a
 -- picture then answer and write.
 use Rattle.std.specs.Prelude.{◌≡◌, ℕ, Bool, true, false, List, [], ◌∷◌, replicate, Some, None, Option}
-use Rattle.refusal.specs.Table.{Answer, accepted, refused}
+use Rattle.refusal.specs.Table.{Answer, accepted}
 use Rattle.panel.specs.Grids.{Grid}
 use Rattle.panel.specs.declared.cell.Cell.{Cell}
 use Rattle.reader.specs.Steps.{rest}
@@ -9,8 +9,7 @@ use Rattle.control.specs.declared.function.Report.{Report}
 use Rattle.control.specs.declared.function.Report.TheVariants.{Position}
 use Rattle.control.specs.Renditions.{rendition_of}
 use Rattle.page.specs.Plain.{Plain, page_refuses, settled, started_page}
-use Rattle.picture.specs.Calls.{Outcome}
-use Rattle.turns.specs.Turns.{Turn, deliver, reply, picture, turn}
+use Rattle.turns.specs.Turns.{deliver, reply, picture, turn}
 
 abbrev pub shown : ℕ → ℕ → Cell
 shown code rendition = record { code = code; rendition = rendition }

@@ -1,6 +1,6 @@
 -- The laws over runs.
-use Rattle.std.specs.Prelude.{◌≡◌, ℕ, ◌+◌, ◌*◌, Bool, true, false, cond, ◌↔◌, List, [], ◌∷◌, length, ◌≢◌}
-use Rattle.refusal.specs.Table.{Answer, accepted, refused}
+use Rattle.std.specs.Prelude.{◌≡◌, ℕ, ◌+◌, true, false, cond, ◌↔◌, List, [], ◌∷◌, length, ◌≢◌}
+use Rattle.refusal.specs.Table.{accepted, refused}
 use Rattle.refusal.specs.declared.Layer.{Layer}
 use Rattle.refusal.specs.declared.Place.{Place}
 use Rattle.panel.specs.Grids.{Grid, Whole}
@@ -9,7 +9,7 @@ use Rattle.reader.specs.Requests.{requests}
 use Rattle.reader.specs.Steps.{rest, standing_after}
 use Rattle.reader.specs.Laws.{is_in_sos}
 use Rattle.reader.specs.Performs.{Part, Cut, cut_performs}
-use Rattle.page.specs.Sheets.{Sheet, on_state, reading}
+use Rattle.page.specs.Sheets.{on_state, reading}
 use Rattle.page.specs.Effects.{begun, does_all}
 use Rattle.page.specs.Proper.{Proper}
 use Rattle.page.specs.Plain.{Plain, known, owes, settled, startable, started_page}

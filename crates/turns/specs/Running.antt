@@ -1,5 +1,5 @@
 -- Lists of turns on a page and its panel: what they did, or, where memory failed, how many of them.
-use Rattle.std.specs.Prelude.{◌≡◌, ℕ, ◌+◌, List, ◌++◌, map, length, take, Result}
+use Rattle.std.specs.Prelude.{◌≡◌, ℕ, List, ◌++◌, map, length, take, Result}
 use Rattle.refusal.specs.Table.{Answer, accepted, refused, answer}
 use Rattle.refusal.specs.declared.Refusal.{Refusal}
 use Rattle.panel.specs.Screens.{Beyond}
@@ -7,7 +7,7 @@ use Rattle.page.specs.Plain.{Plain, OnPanel}
 use Rattle.picture.specs.Calls.{Outcome}
 use Rattle.turns.specs.declared.turn.Turn as program
 use Rattle.turns.specs.declared.turn.Turn.TheVariants.{Deliver, Reply, Picture}
-use Rattle.turns.specs.Turns.{Turn, deliver, reply, picture, turn, after, answers, written_in, taken_in, sent_in}
+use Rattle.turns.specs.Turns.{Turn, deliver, reply, picture, after, answers, written_in, taken_in, sent_in}
 
 -- a turn of the program, by its arguments
 abbrev pub meant : program.Turn → Turn

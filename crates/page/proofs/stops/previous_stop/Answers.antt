@@ -1,4 +1,4 @@
-use Rattle.std.proofs.Common.{◌≡◌, sym, refl, ap, ◌∙◌, arith, rules}
+use Rattle.std.proofs.Common.{sym, ◌∙◌, arith}
 use Rattle.page.proofs.Flags.{back_passes, back_counts, back_stops}
 use Rattle.page.proofs.stops.previous_stop.Goals as goal
 

@@ -1,4 +1,4 @@
-use Rattle.std.proofs.Common.{◌-◌, ap, ◌∙◌, arith}
+use Rattle.std.proofs.Common.{ap, ◌∙◌, arith}
 use Rattle.panel.specs.Grids.{index}
 use Rattle.panel.specs.Screens.{with_grid, wipe_on}
 use Rattle.panel.proofs.Shifted.{right_moved, right_cleared}

@@ -1,4 +1,4 @@
-use Rattle.std.proofs.Common.{◌+◌, ◌-◌, ◌<◌, ◌≤◌, ap, ◌∙◌, arith}
+use Rattle.std.proofs.Common.{◌+◌, ◌<◌, ◌≤◌, ap, ◌∙◌, arith}
 use Rattle.panel.specs.Screens.{with_grid}
 use Rattle.panel.proofs.Shifted.{rectangle_part, up_moved, up_cleared}
 use Rattle.panel.proofs.shifting.line_up.Goals as goal

@@ -1,4 +1,4 @@
-use Rattle.std.proofs.Common.{◌+◌, ◌-◌, ltb, ap, ◌∙◌, arith}
+use Rattle.std.proofs.Common.{◌+◌, ltb, ap, ◌∙◌, arith}
 use Rattle.std.proofs.lemmas.Bool.{ltb-true, ltb-false, lt-ltb, le-ltb}
 use Rattle.panel.specs.Screens.{with_grid}
 use Rattle.panel.specs.Shifts.{line_shifted}

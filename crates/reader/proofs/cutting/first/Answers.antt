@@ -1,4 +1,4 @@
-use Rattle.std.proofs.Common.{◌≡◌, ◌<◌, [], ◌∷◌, length, get_or, sym, refl, inl, rules}
+use Rattle.std.proofs.Common.{[], ◌∷◌, get_or, sym, refl, inl, rules}
 use Rattle.reader.specs.Items.{Spells}
 use Rattle.reader.specs.Walks.{Opens}
 use Rattle.reader.proofs.Forms.{lead_by, front_one, text_leads, control_leads, lone_rest}

@@ -1,4 +1,4 @@
-use Rattle.std.proofs.Common.{drop, sym, ◌∙◌, subst, arith, rules}
+use Rattle.std.proofs.Common.{drop, sym, subst, arith}
 use Rattle.reader.specs.Bytes.{AllOf, Stops}
 use Rattle.reader.specs.Classes.{member}
 use Rattle.reader.proofs.Forms.{all_more, stops_here, stops_end}

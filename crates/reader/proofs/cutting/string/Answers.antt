@@ -1,4 +1,4 @@
-use Rattle.std.proofs.Common.{◌≡◌, ◌<◌, length, get_or, sym, rules}
+use Rattle.std.proofs.Common.{◌≡◌, ◌<◌, length, get_or, rules}
 use Rattle.reader.proofs.Forms.{single, some_after, pattern_one, string_rest, string_rest_esc, string_whole, string_broken}
 use Rattle.reader.proofs.cutting.string.Goals as goal
 use Rattle.reader.proofs.cutting.string.Goals.{then-tail-lt2+in_default-1, else-tail-lt2}

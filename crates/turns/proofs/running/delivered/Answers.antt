@@ -1,4 +1,4 @@
-use Rattle.std.proofs.Common.{◌≡◌, sym, refl, ap, ◌∙◌, append-nil}
+use Rattle.std.proofs.Common.{sym, ap, append-nil}
 use Rattle.turns.specs.Turns.{counted, turn}
 use Rattle.turns.proofs.running.delivered.Goals as goal
 

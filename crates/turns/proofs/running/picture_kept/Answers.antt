@@ -1,4 +1,4 @@
-use Rattle.std.proofs.Common.{◌≡◌, ℕ, List, ◌++◌, length, vec_items, sym, refl, ap, ◌∙◌, arith}
+use Rattle.std.proofs.Common.{ℕ, List, ◌++◌, length, vec_items, ap, ◌∙◌, arith}
 use Rattle.page.specs.Plain.{Plain, plain}
 use Rattle.turns.proofs.Kept.{front_written, pictures_counted}
 use Rattle.turns.proofs.running.picture_kept.Goals as goal

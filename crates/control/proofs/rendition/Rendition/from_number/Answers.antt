@@ -1,4 +1,4 @@
-use Rattle.std.proofs.Common.{arith, rules}
+use Rattle.std.proofs.Common.{rules}
 use Rattle.control.proofs.Numbers.{numbers_name_renditions, made}
 use Rattle.control.proofs.rendition.Rendition.from_number.Goals as goal
 

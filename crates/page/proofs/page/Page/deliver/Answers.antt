@@ -1,4 +1,4 @@
-use Rattle.std.proofs.Common.{◌≡◌, true, false, sym, ap, ◌∙◌, arith, rules}
+use Rattle.std.proofs.Common.{◌≡◌, true, false, sym, ◌∙◌, rules}
 use Rattle.page.specs.Sheets.{placed}
 use Rattle.page.specs.Plain.{Plain, plain, known, owes}
 use Rattle.page.proofs.BytesAct.{shows_items}

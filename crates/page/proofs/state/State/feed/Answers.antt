@@ -1,4 +1,4 @@
-use Rattle.std.proofs.Common.{◌≡◌, sym, refl, ap, ◌∙◌, arith}
+use Rattle.std.proofs.Common.{sym, refl}
 use Rattle.page.proofs.Deliveries.{going_none, going_more, going_stop, going_all}
 use Rattle.page.proofs.state.State.feed.Goals as goal
 

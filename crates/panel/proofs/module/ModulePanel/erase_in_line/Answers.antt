@@ -1,4 +1,4 @@
-use Rattle.std.proofs.Common.{◌+◌, ap, arith}
+use Rattle.std.proofs.Common.{ap, arith}
 use Rattle.panel.specs.Grids.{with_cells}
 use Rattle.panel.specs.Screens.{with_grid}
 use Rattle.panel.specs.Moduled.{module_shows, module_sound}

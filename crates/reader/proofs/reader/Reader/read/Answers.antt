@@ -1,4 +1,4 @@
-use Rattle.std.proofs.Common.{◌≡◌, length, refl, ap, ◌∙◌, arith, take_all, rules}
+use Rattle.std.proofs.Common.{◌≡◌, length, refl, ap, ◌∙◌, arith, take_all}
 use Rattle.reader.specs.Steps.{standing_after, performed}
 use Rattle.reader.specs.Meaning.{standing_of, functions_of}
 use Rattle.reader.proofs.Parts.{reads_in_parts, turn_standing, turn_performed}

@@ -1,4 +1,4 @@
-use Rattle.std.proofs.Common.{sym, ap, ◌∙◌, zero-add, arith, rules}
+use Rattle.std.proofs.Common.{sym, ap, ◌∙◌, zero-add, arith}
 use Rattle.reader.specs.Requests.{any_requests}
 use Rattle.reader.proofs.Stopping.{stops_at_request, stops_here, goes_on, stops_at_end}
 use Rattle.reader.proofs.reader.Reader.until_request.Goals as goal
