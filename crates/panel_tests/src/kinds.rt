@@ -31,7 +31,7 @@ fn odd_lines_come_first(rt: HostRuntime) {
         assert!(rt; reads(&p, b"ABCDEF"));
     }
     let got: &[u8] = &three;
-    assert!(rt; got == b"ABEFCD\0\0\0\0\0\0\0\0\0\0\0\0\x07");
+    assert!(rt; got == b"ABEFCD\0\0\0\0\0\0\0\0\0\0\0\0\x07".as_slice());
     let mut four = [7u8; 25];
     {
         let mut p = ModulePanel::new(&mut four, 4, 2);
@@ -39,7 +39,7 @@ fn odd_lines_come_first(rt: HostRuntime) {
         assert!(rt; reads(&p, b"ABCDEFGH"));
     }
     let got: &[u8] = &four;
-    assert!(rt; got == b"ABEFCDGH\0\0\0\0\0\0\0\0\0\0\0\0\0\0\0\0\x07");
+    assert!(rt; got == b"ABEFCDGH\0\0\0\0\0\0\0\0\0\0\0\0\0\0\0\0\x07".as_slice());
 }
 
 #[test]
@@ -116,5 +116,5 @@ fn clearing_leaves_what_lies_past(rt: HostRuntime) {
     let mut bytes = [9u8; 7];
     clear_bytes(&mut bytes, 2, 1);
     let got: &[u8] = &bytes;
-    assert!(rt; got == b"\0\0\0\0\0\0\x09");
+    assert!(rt; got == b"\0\0\0\0\0\0\x09".as_slice());
 }
