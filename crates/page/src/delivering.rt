@@ -37,7 +37,8 @@ impl State {
 impl Page {
     // A page that is not started. Behind it stands what a page of one cell begins with; no call answers by that.
     pub fn new() -> Page
-        ensures { (g : Grid) → plain result g ≡ unstarted g }
+        ensures not_started { result.started ≡ false }
+        ensures shows { (g : Grid) → plain result g ≡ unstarted g }
     {
         Page {
             started: false,

@@ -57,7 +57,7 @@ only_if within ps = cond within (Some ps) None
 
 -- at most sixteen parameters
 abbrev pub bounded : List Parameter → Parameters
-bounded ps = only_if (nat_le (length ps) 16) ps
+bounded ps = cond (nat_le (length ps) 16) (Some ps) None
 
 -- one more parameter byte
 abbrev pub with_byte : Parameters → ℕ → Parameters
