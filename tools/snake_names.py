@@ -3,8 +3,8 @@
 
 usage: python3 tools/snake_names.py [ROOT]     run once, after the toolchain's own script port.py, on the tree that it left
 
-Words, lemmas, fields and locals in snake case (`size-of` becomes `size_of`), facts, records and data in camel case
-(`In-line` becomes `InLine`). Names of the library and names that Rattle makes from source (`returns-in_ok`, what stands
+Words, lemmas, fields and locals in snake case (`size-of` becomes `size_of`, `isDigit` becomes `is_digit`), facts, records
+and data in camel case (`In-line` becomes `InLine`). Names of the library and names that Rattle makes from source (`returns-in_ok`, what stands
 behind `goal.` and `c.`) stay. It prints names that fall together and proves nothing.
 """
 import collections
@@ -17,6 +17,8 @@ NAME = r"[A-Za-z_][\w']*(?:-[\w']+)*"
 TOKEN = re.compile(NAME)
 HEAD = re.compile(r"^(\s*)((?:abbrev |unfoldable |pub |data |record )*)(" + NAME + r")(?:(?: \([^=]*\)| \{[^=]*\})*) :(?: |$)(.*)")
 USE = re.compile(r"use ([\w.]+)\.\{([^}]*)\}")
+# a lemma that would else be called as the word it is about
+BY_HAND = {"is-parameter": "digit_is_parameter"}
 IN_RT = r"//[^\n]*|\"(?:\\.|[^\"\\])*\"|'(?:\\.|[^'\\\n])'"
 IN_ANTT = r"--(?!\w)[^\n]*|\{-.*?-\}"
 
@@ -47,7 +49,13 @@ def camel(name):
 
 
 def snake(name):
-    return name.replace("-", "_")
+    name = re.sub(r"^getD(?=[-_])", "get_or", name.replace("-", "_"))
+    return re.sub(r"(?<=[a-z])[A-Z]", lambda m: "_" + m.group(0).lower(), name)
+
+
+def is_older(name):
+    """Whether a name has a dash, or capitals within a word."""
+    return "-" in name or bool(re.match(r"[a-z]+[A-Z]", name))
 
 
 def is_answer(name, of):
@@ -68,11 +76,11 @@ def declared():
                 continue
             indent, words, name, of = m.groups()
             of = of.strip()
-            if "-" not in name:
+            if not is_older(name):
                 plain.add(name)
             elif not is_answer(name, of):
                 fact = of in ("Type 0", "Type 0 where") or of.endswith(("→ Type 0", "→ Type 0 where"))
-                table[name] = camel(name) if fact else snake(name)
+                table[name] = BY_HAND.get(name) or (camel(name) if fact else snake(name))
                 if inside is not None:
                     fields.add(name)
             if {"record", "data"} & set(words.split()):
@@ -103,13 +111,15 @@ def turn(path, table, fields, own, said):
 
     def one(m):
         name = m.group(0)
-        if "-" not in name or name in stays:
+        if not is_older(name) or name in stays:
             return name
         before = m.string[: m.start()]
         if before.endswith("."):
             return snake(name) if name in fields and not before.endswith("goal.") else name
         if name in table:
             return table[name]
+        if "-" not in name:
+            return name
         said[name].add(path)
         return snake(name)
 
@@ -147,7 +157,7 @@ def main():
             turn(path, table, fields, own, said)
     for folder in (ROOT, os.path.join(ROOT, "docs")):
         for name in sorted(os.listdir(folder)):
-            if name.endswith(".md"):
+            if name.endswith(".md") and name != "PORT.md":
                 path = os.path.join(folder, name)
                 text = read(path)
                 for m in re.finditer(r"`(" + NAME + r")`", text):

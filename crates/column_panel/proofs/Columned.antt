@@ -8,7 +8,7 @@ use Rattle.panel.specs.Memories.{roomy, roomy_true}
 use Rattle.panel.specs.Screens.{cells_past, put_on}
 use Rattle.panel.specs.Windows.{seen}
 use Rattle.panel.proofs.Places.{columns_some}
-use Rattle.panel.proofs.Seen.{getD_seen, seen_set}
+use Rattle.panel.proofs.Seen.{get_or_seen, seen_set}
 use Rattle.column_panel.specs.Columned.{stored_at, columned_if, columned}
 
 -- every cell is stored in the part of the memory that is the panel's
@@ -40,7 +40,7 @@ columned_room loan l c xs k h = room_if (roomy (record { lines = l; columns = c 
 -- its cell, and the memory after a cell is put there
 cell_if : (b : Bool) (loan l c : ℕ) (xs : List Cell) (k : ℕ) → k < (columned_if b loan l c xs).grid.lines * (columned_if b loan l c xs).grid.columns →
     get_or xs (stored_at (columned_if b loan l c xs).grid.lines (columned_if b loan l c xs).grid.columns k) erased ≡ get_or (columned_if b loan l c xs).grid.cells k erased
-cell_if true loan l c xs k h = sym (getD_seen (stored_at l c) (l * c) xs k h)
+cell_if true loan l c xs k h = sym (get_or_seen (stored_at l c) (l * c) xs k h)
 cell_if false loan l c xs k h = absurd (omega arith)
 
 pub columned_cell : (loan l c : ℕ) (xs : List Cell) (k : ℕ) → k < (columned loan l c xs).grid.lines * (columned loan l c xs).grid.columns →

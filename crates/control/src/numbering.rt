@@ -1,6 +1,6 @@
 // The number that stands for a rendition in a cell: one for each of its aspects, in mixed radix.
 ghost use Rattle.std.specs.Prelude.{◌≡◌, ℕ, ◌<◌, if◌then◌else◌, Some, None, nat_lt};
-ghost use Rattle.control.specs.Renditions.{of_intensity, of_underline, of_blink, of_flag, of_colour, number as number_of_lem, to_intensity, to_underline, to_blink, to_flag, to_colour, rendition_of, NumbersNameRenditions};
+ghost use Rattle.control.specs.Renditions.{of_intensity, of_underline, of_blink, of_flag, of_colour, number as number_of, to_intensity, to_underline, to_blink, to_flag, to_colour, rendition_of, NumbersNameRenditions};
 
 use crate::rendition::{Blink, Colour, Intensity, Rendition, Underline};
 
@@ -111,7 +111,7 @@ fn colour_of(n: u16) -> Colour
 impl Rendition {
     // The number that stands for it in a cell, 0 to 34,991.
     pub fn number(self) -> u16
-        ensures answer { result ≡ number_of_lem self }
+        ensures answer { result ≡ number_of self }
         ensures small { result < 34992 }
     {
         intensity_number(self.intensity)

@@ -1,13 +1,13 @@
 -- A byte completes nothing, or one function and leaves the reader at rest.
 use Rattle.std.proofs.Common.{◌≡◌, ℕ, ◌+◌, Bool, true, false, cond, ◌&&◌, ◌||◌, eqb, [], Some, None, refl}
 use Rattle.std.proofs.lemmas.Bool.{cond_both}
-use Rattle.reader.specs.Bytes.{among, isGraphic, isOpener, isBody, isIntermediate, isParameter, endsEscape, endsSequence}
+use Rattle.reader.specs.Bytes.{among, is_graphic, is_opener, is_body, is_intermediate, is_parameter, ends_escape, ends_sequence}
 use Rattle.reader.specs.Functions.{Function, Parameters, graphic, control, reset, sequence}
 use Rattle.reader.specs.Steps.{Standing, Outcome, to, ends, at_rest, escape_final, sequence_final, step, rest, escape, in_parameters, in_intermediates, in_string, in_sos, with_byte}
 
 -- what the reader hands out as a graphic character is one
 abbrev pub Read : Function → Type 0
-Read (graphic b) = isGraphic b ≡ true
+Read (graphic b) = is_graphic b ≡ true
 Read (control b) = Unit {0}
 Read reset = Unit {0}
 Read (sequence ps space f) = Unit {0}
@@ -29,11 +29,11 @@ either false o q x y = y
 rest_shape : (b : ℕ) → Shape (at_rest b)
 unfolding at_rest
 rest_shape b =
-    cond_both (isGraphic b) _ _ Shape (λ e. completes (graphic b) e)
+    cond_both (is_graphic b) _ _ Shape (λ e. completes (graphic b) e)
     (λ _. either (eqb b 0x7F || eqb b 0x9C) _ _ (leads rest)
     (either (eqb b 0x1B) _ _ (leads (escape false))
     (either (eqb b 0x9B) _ _ (leads (in_parameters (Some [])))
-    (either (isOpener b) _ _ (leads in_string)
+    (either (is_opener b) _ _ (leads in_string)
     (either (eqb b 0x98) _ _ (leads (in_sos false)) (completes (control b) tt))))))
 
 escape_shape : (between : Bool) (b : ℕ) → Shape (escape_final between b)
@@ -46,12 +46,12 @@ sequence_shape (Some ps) space b = completes (sequence ps space b) tt
 
 pub step_shape : (s : Standing) (b : ℕ) → Shape (step s b)
 step_shape rest b = rest_shape b
-step_shape (escape between) b = either (isIntermediate b) _ _ (leads (escape true)) (either (endsEscape b) _ _ (escape_shape between b) (rest_shape b))
+step_shape (escape between) b = either (is_intermediate b) _ _ (leads (escape true)) (either (ends_escape b) _ _ (escape_shape between b) (rest_shape b))
 step_shape (in_parameters ps) b =
-    either (isParameter b) _ _ (leads (in_parameters (with_byte ps b)))
-    (either (isIntermediate b) _ _ (leads (in_intermediates (cond (eqb b 0x20) ps None)))
-    (either (endsSequence b) _ _ (sequence_shape ps false b) (rest_shape b)))
+    either (is_parameter b) _ _ (leads (in_parameters (with_byte ps b)))
+    (either (is_intermediate b) _ _ (leads (in_intermediates (cond (eqb b 0x20) ps None)))
+    (either (ends_sequence b) _ _ (sequence_shape ps false b) (rest_shape b)))
 step_shape (in_intermediates ps) b =
-    either (isIntermediate b) _ _ (leads (in_intermediates None)) (either (endsSequence b) _ _ (sequence_shape ps true b) (rest_shape b))
-step_shape in_string b = either (isBody b) _ _ (leads in_string) (rest_shape b)
+    either (is_intermediate b) _ _ (leads (in_intermediates None)) (either (ends_sequence b) _ _ (sequence_shape ps true b) (rest_shape b))
+step_shape in_string b = either (is_body b) _ _ (leads in_string) (rest_shape b)
 step_shape (in_sos escaped) b = either (eqb b 0x9C || (escaped && eqb b 0x5C)) _ _ (leads rest) (leads (in_sos (eqb b 0x1B)))

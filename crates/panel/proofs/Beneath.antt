@@ -10,7 +10,7 @@ use Rattle.panel.specs.Screens.{Screen, Sound, Beyond, nothing, cells_past, byte
 use Rattle.panel.specs.Rectangles.{Fit, framed, covers}
 use Rattle.panel.specs.Windows.{under, seen, masked, windowed}
 use Rattle.panel.specs.Lendings.{on_loan}
-use Rattle.panel.proofs.Seen.{getD_seen}
+use Rattle.panel.proofs.Seen.{get_or_seen}
 use Rattle.panel.proofs.Replaced.{replaced_out}
 use Rattle.panel.proofs.Framed.{framed_fit}
 use Rattle.panel.proofs.Shifted.{in_true}
@@ -52,7 +52,7 @@ module _ (g : Grid) (xs ys : List Cell) (wx : Whole (with_cells g xs)) (wy : Who
       ext_get_or erased xs ys (lx ∙ sym ly) (λ k b.
       ⊎_elim
       (λ t. let o = covered g.columns f k fit.top_low fit.left_low t in
-      ap (λ z. get_or xs z erased) (sym o.2) ∙ sym (getD_seen u n xs o.0 o.1) ∙ ap (λ zs. get_or zs o.0 erased) inner ∙ getD_seen u n ys o.0 o.1 ∙ ap (λ z. get_or ys z erased) o.2)
+      ap (λ z. get_or xs z erased) (sym o.2) ∙ sym (get_or_seen u n xs o.0 o.1) ∙ ap (λ zs. get_or zs o.0 erased) inner ∙ get_or_seen u n ys o.0 o.1 ∙ ap (λ z. get_or ys z erased) o.2)
       (λ e. sym (replaced_out c (λ j. erased) (with_cells g xs) k wx e) ∙ ap (λ z. get_or z.cells k erased) outer ∙ replaced_out c (λ j. erased) (with_cells g ys) k wy e)
       (cases_Bool (c k)))
 

@@ -10,8 +10,8 @@ use Rattle.panel.specs.Rectangles.{Fit, framed, covers}
 use Rattle.panel.specs.Copies.{part_within, part_on, in_run, copy_of, copied, copy_answer, copy_on}
 use Rattle.panel.specs.Windows.{under, part_beneath, windowed, through, seen, masked}
 use Rattle.panel.proofs.Places.{Within, within_true, true_within, index_lt}
-use Rattle.panel.proofs.Seen.{OneToOne, getD_seen, length_seen}
-use Rattle.panel.proofs.Replaced.{getD_replaced, replaced_out, is_replaced, replaced_same}
+use Rattle.panel.proofs.Seen.{OneToOne, get_or_seen, length_seen}
+use Rattle.panel.proofs.Replaced.{get_or_replaced, replaced_out, is_replaced, replaced_same}
 use Rattle.panel.proofs.Framed.{framed_fit, under_at, within_below, under_inj, under_lt, under_run, covers_under}
 
 -- an index in a run
@@ -60,7 +60,7 @@ module _ (u : ℕ → ℕ) (m : ℕ) (inj : OneToOne u m) (fw tw n : ℕ) (room 
       let cs = (copied (u fw) (u tw) n g).cells in
       is_replaced (in_run tw n) (copy_of fw tw w) w (seen u m cs) (length_seen u m cs ∙ sym size) (λ k b.
       let less : k < m = omega (arith, size) in
-      getD_seen u m cs k less ∙ getD_replaced (in_run (u tw) n) (copy_of (u fw) (u tw) g) g (u k) (low k less)
+      get_or_seen u m cs k less ∙ get_or_replaced (in_run (u tw) n) (copy_of (u fw) (u tw) g) g (u k) (low k less)
       ∙ ⊎_elim
       (λ t. let p = in_true tw n k t in
       let a = p.0 in
@@ -69,9 +69,9 @@ module _ (u : ℕ → ℕ) (m : ℕ) (inj : OneToOne u m) (fw tw n : ℕ) (room 
       let e : u fw + (u k - u tw) ≡ u (fw + j) = omega (arith, run_seen k t, from_run j (omega arith)) in
       cond-true (in_run (u tw) n (u k)) (copy_of (u fw) (u tw) g (u k)) (get_or g.cells (u k) erased) (in_seen k t)
       ∙ ap (λ z. get_or g.cells z erased) e
-      ∙ sym (cond-true (in_run tw n k) (copy_of fw tw w k) (get_or w.cells k erased) t ∙ ap (λ xs. get_or xs (fw + j) erased) cells ∙ getD_seen u m g.cells (fw + j) (omega arith)))
+      ∙ sym (cond-true (in_run tw n k) (copy_of fw tw w k) (get_or w.cells k erased) t ∙ ap (λ xs. get_or xs (fw + j) erased) cells ∙ get_or_seen u m g.cells (fw + j) (omega arith)))
       (λ f. cond-false (in_run (u tw) n (u k)) (copy_of (u fw) (u tw) g (u k)) (get_or g.cells (u k) erased) (out_seen k less f)
-      ∙ sym (cond-false (in_run tw n k) (copy_of fw tw w k) (get_or w.cells k erased) f ∙ ap (λ xs. get_or xs k erased) cells ∙ getD_seen u m g.cells k less))
+      ∙ sym (cond-false (in_run tw n k) (copy_of fw tw w k) (get_or w.cells k erased) f ∙ ap (λ xs. get_or xs k erased) cells ∙ get_or_seen u m g.cells k less))
       (cases_Bool (in_run tw n k)))
 
 -- some cells of a line of a rectangle, and where they are below

@@ -4,7 +4,7 @@ use Rattle.std.proofs.lemmas.Bool.{and_from, le-leb, cases_Bool, cond-true, cond
 use Rattle.std.proofs.lemmas.List.{ext_get_or, length-replicate, get_or-replicate}
 use Rattle.panel.specs.Grids.{Grid, Whole, erased, on, index, run_on, with_cells, wiped, after_erase}
 use Rattle.panel.specs.Clears.{cleared}
-use Rattle.panel.proofs.Wiped.{length_wiped, getD_wiped_in}
+use Rattle.panel.proofs.Wiped.{length_wiped, get_or_wiped_in}
 use Rattle.panel.proofs.Places.{columns_some, true_within}
 
 -- where there is a cell, the run of all cells begins and ends on the grid
@@ -24,7 +24,7 @@ all_erased g h =
     (λ t. cond-true _ _ _ t ∙ ap (λ i. with_cells g (wiped g.cells i n)) start
     ∙ ap (with_cells g) (ext_get_or erased _ _ (length_wiped g.cells 0 n (omega arith) ∙ count ∙ sym (length-replicate n erased)) (λ k l.
     let low : k < n = omega (arith, length_wiped g.cells 0 n (omega arith)) in
-    getD_wiped_in g.cells 0 n k (omega arith) (omega arith) (omega arith) ∙ sym (get_or-replicate n k erased erased low))))
+    get_or_wiped_in g.cells 0 n k (omega arith) (omega arith) (omega arith) ∙ sym (get_or-replicate n k erased erased low))))
     (λ f. cond-false _ _ _ f ∙ ap (with_cells g) (ext_get_or erased g.cells (replicate n erased) (count ∙ sym (length-replicate n erased)) (λ k l.
     absurd (both_ways _ f (run_of_all g k (omega arith))))))
     (cases_Bool (run_on g 1 1 n))

@@ -5,7 +5,7 @@ use Rattle.std.proofs.lemmas.Bool.{cases_eq, cases_lt, cases_Bool, cond-true, co
 use Rattle.std.proofs.lemmas.List.{ext_get_or, length-set, get_or-set_same, get_or-set_other, get_or_past}
 use Rattle.panel.specs.declared.cell.Cell.{Cell}
 use Rattle.panel.specs.Grids.{Grid, Whole, erased, with_cells, replaced, wiped}
-use Rattle.panel.proofs.Wiped.{getD_wiped_out}
+use Rattle.panel.proofs.Wiped.{get_or_wiped_out}
 
 -- the cell at an index, replaced or not
 abbrev pub choice : (ℕ → Bool) → (ℕ → Cell) → Grid → ℕ → Cell
@@ -15,23 +15,23 @@ module _ (here : ℕ → Bool) (new : ℕ → Cell) (g : Grid) where
   pub length_replaced : length (replaced here new g).cells ≡ g.lines * g.columns
   length_replaced = length-map-range_with_len (choice here new g) 0 (g.lines * g.columns)
 
-  pub getD_replaced : (k : ℕ) → k < g.lines * g.columns → get_or (replaced here new g).cells k erased ≡ choice here new g k
-  getD_replaced k l = get_or-map-range_with_len (choice here new g) 0 (g.lines * g.columns) k k erased l (omega arith)
+  pub get_or_replaced : (k : ℕ) → k < g.lines * g.columns → get_or (replaced here new g).cells k erased ≡ choice here new g k
+  get_or_replaced k l = get_or-map-range_with_len (choice here new g) 0 (g.lines * g.columns) k k erased l (omega arith)
 
   pub replaced_in : (k : ℕ) → k < g.lines * g.columns → here k ≡ true → get_or (replaced here new g).cells k erased ≡ new k
-  replaced_in k l t = getD_replaced k l ∙ cond-true (here k) (new k) (get_or g.cells k erased) t
+  replaced_in k l t = get_or_replaced k l ∙ cond-true (here k) (new k) (get_or g.cells k erased) t
 
   pub replaced_out : (k : ℕ) → Whole g → here k ≡ false → get_or (replaced here new g).cells k erased ≡ get_or g.cells k erased
   replaced_out k w e =
       ⊎_elim
-      (λ l. getD_replaced k l ∙ cond-false (here k) (new k) (get_or g.cells k erased) e)
+      (λ l. get_or_replaced k l ∙ cond-false (here k) (new k) (get_or g.cells k erased) e)
       (λ p. get_or_past (replaced here new g).cells k erased (omega (arith, length_replaced)) ∙ sym (get_or_past g.cells k erased (omega (arith, w.count))))
       (cases_lt k (g.lines * g.columns))
 
   -- cells that are, one by one, those of the replaced grid
   pub is_replaced : (ys : List Cell) → length ys ≡ g.lines * g.columns → ((k : ℕ) → k < g.lines * g.columns → get_or ys k erased ≡ choice here new g k) → with_cells g ys ≡ replaced here new g
   is_replaced ys n each =
-      ap (with_cells g) (ext_get_or erased ys _ (n ∙ sym length_replaced) (λ k l. each k (omega (arith, n)) ∙ sym (getD_replaced k (omega (arith, n)))))
+      ap (with_cells g) (ext_get_or erased ys _ (n ∙ sym length_replaced) (λ k l. each k (omega (arith, n)) ∙ sym (get_or_replaced k (omega (arith, n)))))
 
 -- one more cell replaced
 pub replaced_set : (here more : ℕ → Bool) (new : ℕ → Cell) (g : Grid) (k : ℕ) → k < g.lines * g.columns → more k ≡ true → ((j : ℕ) → (j ≡ k → ⊥) → more j ≡ here j) →
@@ -42,7 +42,7 @@ replaced_set here more new g k l t same =
     is_replaced more new g (set xs k (new k)) (length-set xs k (new k) ∙ n) (λ j m.
     ⊎_elim
     (λ e. ap (λ i. get_or (set xs k (new k)) i erased) e ∙ get_or-set_same xs k (new k) erased (omega arith) ∙ sym (ap (choice more new g) e ∙ cond-true (more k) (new k) (get_or g.cells k erased) t))
-    (λ ne. get_or-set_other xs k j (new k) erased ne ∙ getD_replaced here new g j m ∙ ap (λ b. cond b (new j) (get_or g.cells j erased)) (sym (same j ne)))
+    (λ ne. get_or-set_other xs k j (new k) erased ne ∙ get_or_replaced here new g j m ∙ ap (λ b. cond b (new j) (get_or g.cells j erased)) (sym (same j ne)))
     (cases_eq j k))
 
 -- where the new cells do not hang on the old ones, only those that stay count
@@ -50,7 +50,7 @@ pub replaced_same : (here : ℕ → Bool) (new : ℕ → Cell) (g : Grid) (xs ys
     replaced here new (with_cells g xs) ≡ replaced here new (with_cells g ys)
 replaced_same here new g xs ys same =
     is_replaced here new (with_cells g ys) (replaced here new (with_cells g xs)).cells (length_replaced here new (with_cells g xs)) (λ k l.
-    getD_replaced here new (with_cells g xs) k l
+    get_or_replaced here new (with_cells g xs) k l
     ∙ ⊎_elim
     (λ t. cond-true (here k) (new k) _ t ∙ sym (cond-true (here k) (new k) _ t))
     (λ f. cond-false (here k) (new k) _ f ∙ same k f ∙ sym (cond-false (here k) (new k) _ f))
@@ -66,4 +66,4 @@ replaced_under_set here new g xs j x t = replaced_same here new g (set xs j x) x
 pub replaced_under_wiped : (here : ℕ → Bool) (new : ℕ → Cell) (g : Grid) (xs : List Cell) (j m : ℕ) → j + m ≤ length xs → ((t : ℕ) → t < m → here (j + t) ≡ true) →
     replaced here new (with_cells g (wiped xs j m)) ≡ replaced here new (with_cells g xs)
 replaced_under_wiped here new g xs j m l all =
-    replaced_same here new g (wiped xs j m) xs (λ k f. getD_wiped_out xs j m k l (λ a z. differ here (j + (k - j)) k (all (k - j) (omega arith)) f (omega arith)))
+    replaced_same here new g (wiped xs j m) xs (λ k f. get_or_wiped_out xs j m k l (λ a z. differ here (j + (k - j)) k (all (k - j) (omega arith)) f (omega arith)))

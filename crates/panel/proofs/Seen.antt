@@ -6,10 +6,10 @@ use Rattle.std.proofs.lemmas.List.{ext_get_or, length-set, get_or-set_same, get_
 use Rattle.panel.specs.declared.cell.Cell.{Cell}
 use Rattle.panel.specs.Grids.{erased, wiped}
 use Rattle.panel.specs.Windows.{seen}
-use Rattle.panel.proofs.Wiped.{length_wiped, getD_wiped_in, getD_wiped_out, in_or_out}
+use Rattle.panel.proofs.Wiped.{length_wiped, get_or_wiped_in, get_or_wiped_out, in_or_out}
 
-pub getD_seen : (u : ℕ → ℕ) (n : ℕ) (xs : List Cell) (k : ℕ) → k < n → get_or (seen u n xs) k erased ≡ get_or xs (u k) erased
-getD_seen u n xs k h = get_or-map-range_with_len _ 0 n k k erased h (omega arith)
+pub get_or_seen : (u : ℕ → ℕ) (n : ℕ) (xs : List Cell) (k : ℕ) → k < n → get_or (seen u n xs) k erased ≡ get_or xs (u k) erased
+get_or_seen u n xs k h = get_or-map-range_with_len _ 0 n k k erased h (omega arith)
 
 pub length_seen : (u : ℕ → ℕ) (n : ℕ) (xs : List Cell) → length (seen u n xs) ≡ n
 length_seen u n xs = length-map-range_with_len _ 0 n
@@ -22,12 +22,12 @@ pub seen_set : (u : ℕ → ℕ) (n : ℕ) (xs : List Cell) (i : ℕ) (x : Cell)
 seen_set u n xs i x h l inj =
     ext_get_or erased _ _ (length_seen u n _ ∙ sym (length-set _ i x ∙ length_seen u n xs)) (λ k b.
     let m : k < n = omega (arith, length_seen u n (set xs (u i) x)) in
-    getD_seen u n _ k m ∙
+    get_or_seen u n _ k m ∙
     ⊎_elim
     (λ e. ap (λ j. get_or (set xs (u i) x) (u j) erased) e ∙ get_or-set_same xs (u i) x erased l
     ∙ sym (ap (λ j. get_or (set (seen u n xs) i x) j erased) e ∙ get_or-set_same (seen u n xs) i x erased (omega (arith, length_seen u n xs))))
     (λ ne. get_or-set_other xs (u i) (u k) x erased (λ e. ne (inj i k h m e))
-    ∙ sym (get_or-set_other (seen u n xs) i k x erased ne ∙ getD_seen u n xs k m))
+    ∙ sym (get_or-set_other (seen u n xs) i k x erased ne ∙ get_or_seen u n xs k m))
     (cases_eq k i))
 
 seen_wiped_at : (u : ℕ → ℕ) (n : ℕ) (xs : List Cell) (i m : ℕ) → i + m ≤ n → u i + m ≤ length xs → OneToOne u n →
@@ -39,14 +39,14 @@ seen_wiped_at u n xs i m h l inj run k b =
     let r = run (k - i) (omega arith) in
     let e : i + (k - i) ≡ k = omega arith in
     let r2 : u k ≡ u i + (k - i) = ap u (sym e) ∙ r in
-    getD_wiped_in xs (u i) m (u k) l (omega arith) (omega arith) ∙ sym (getD_wiped_in (seen u n xs) i m k (omega arith) in_run.0 in_run.1))
+    get_or_wiped_in xs (u i) m (u k) l (omega arith) (omega arith) ∙ sym (get_or_wiped_in (seen u n xs) i m k (omega arith) in_run.0 in_run.1))
     (λ out.
-    getD_wiped_out xs (u i) m (u k) l (λ a z.
+    get_or_wiped_out xs (u i) m (u k) l (λ a z.
     let r = run (u k - u i) (omega arith) in
     let e : u k ≡ u (i + (u k - u i)) = omega arith in
     let q = inj (i + (u k - u i)) k (omega arith) b e in
     out (omega arith) (omega arith))
-    ∙ sym (getD_wiped_out (seen u n xs) i m k (omega arith) out ∙ getD_seen u n xs k b))
+    ∙ sym (get_or_wiped_out (seen u n xs) i m k (omega arith) out ∙ get_or_seen u n xs k b))
     (in_or_out i m k)
 
 pub seen_wiped : (u : ℕ → ℕ) (n : ℕ) (xs : List Cell) (i m : ℕ) → i + m ≤ n → u i + m ≤ length xs → OneToOne u n →
@@ -56,4 +56,4 @@ seen_wiped u n xs i m h l inj run =
     let lw = length_wiped (seen u n xs) i m (omega arith) in
     ext_get_or erased _ _ (length_seen u n _ ∙ sym (lw ∙ ls)) (λ k b.
     let b2 : k < n = omega (arith, length_seen u n (wiped xs (u i) m)) in
-    getD_seen u n _ k b2 ∙ seen_wiped_at u n xs i m h l inj run k b2)
+    get_or_seen u n _ k b2 ∙ seen_wiped_at u n xs i m h l inj run k b2)

@@ -11,8 +11,8 @@ use Rattle.panel.specs.Grids.{Grid, Whole, erased, index, with_cells, replaced, 
 use Rattle.panel.specs.Rectangles.{Fit, in_rectangle, covers}
 use Rattle.panel.specs.Shifts.{source, from_source, incoming, incoming_at, shifted, line_shifted, is_forward, Line, Part}
 use Rattle.panel.specs.Copies.{in_run, copy_of, copied}
-use Rattle.panel.proofs.Wiped.{length_wiped, getD_wiped_in, getD_wiped_out}
-use Rattle.panel.proofs.Replaced.{choice, length_replaced, getD_replaced, replaced_in, replaced_out, is_replaced}
+use Rattle.panel.proofs.Wiped.{length_wiped, get_or_wiped_in, get_or_wiped_out}
+use Rattle.panel.proofs.Replaced.{choice, length_replaced, get_or_replaced, replaced_in, replaced_out, is_replaced}
 use Rattle.panel.proofs.Copied.{part_end}
 
 -- whether a line and column are in a rectangle
@@ -150,8 +150,8 @@ module _ (g : Grid) (h : Whole g) (r : Rectangle) (n line : ℕ) (l : Line g r n
   pub line_cleared : (d : Direction) → ((c : ℕ) → r.left ≤ c → c < r.left + C → incoming r d n g line c ≡ erased) → with_cells g (wiped g.cells start C) ≡ line_shifted r d n line g
   line_cleared d none =
       is_line d (wiped g.cells start C) (length_wiped g.cells start C line_room ∙ h.count)
-      (λ c a b. let q = column_run c a b in getD_wiped_in g.cells start C (index g line c) line_room q.0 q.1 ∙ sym (none c a b))
-      (λ k f. getD_wiped_out g.cells start C k line_room (out_of start C k f))
+      (λ c a b. let q = column_run c a b in get_or_wiped_in g.cells start C (index g line c) line_room q.0 q.1 ∙ sym (none c a b))
+      (λ k f. get_or_wiped_out g.cells start C k line_room (out_of start C k f))
 
   -- a run of m cells is copied within the line, and a run of n cells is erased
   pub line_slid : (d : Direction) (from to m at : ℕ) → start ≤ to → to + m ≤ start + C → start ≤ at → at + n ≤ start + C →
@@ -168,11 +168,11 @@ module _ (g : Grid) (h : Whole g) (r : Rectangle) (n line : ℕ) (l : Line g r n
       is_line d (wiped xs at n) (length_wiped xs at n room ∙ len)
       (λ c a b. let q = column_run c a b in
       ⊎_elim
-      (λ e. getD_wiped_in xs at n (index g line c) room e.0 e.1 ∙ sym e.2)
-      (λ e. getD_wiped_out xs at n (index g line c) room e.0
+      (λ e. get_or_wiped_in xs at n (index g line c) room e.0 e.1 ∙ sym e.2)
+      (λ e. get_or_wiped_out xs at n (index g line c) room e.0
       ∙ replaced_in (in_run to m) (copy_of from to g) g (index g line c) (omega (arith, q.1)) (and_from _ _ (le-leb _ _ e.1) (lt-ltb _ _ e.2)) ∙ e.3)
       (each c a b))
-      (λ k f. getD_wiped_out xs at n k room (λ a b. out_of start C k f (omega arith) (omega arith))
+      (λ k f. get_or_wiped_out xs at n k room (λ a b. out_of start C k f (omega arith) (omega arith))
       ∙ replaced_out (in_run to m) (copy_of from to g) g k h
       (⊎_elim (λ e. let p = and_parts (leb to k) (ltb k (to + m)) e in
       let x : to ≤ k = leb-true _ _ p.0 in
@@ -269,14 +269,14 @@ module _ (g : Grid) (h : Whole g) (r : Rectangle) (fit : Fit g.lines g.columns r
       let w = g.columns in
       let here : ℕ → Bool = λ k. eqb (k / w + 1) line && covers w r k in
       is_replaced (λ k. more (k / w + 1)) settled g (line_shifted r d n line t).cells (length_replaced here (incoming_at r d n t) t) (λ k low.
-      getD_replaced here (incoming_at r d n t) t k low
+      get_or_replaced here (incoming_at r d n t) t k low
       ∙ ⊎_elim
       (λ e. ap (λ b. cond (b && covers w r k) (incoming_at r d n t k) (get_or t.cells k erased)) (eq-eqb (k / w + 1) line e)
       ∙ ap (λ x. cond (covers w r k) x (get_or t.cells k erased)) (source_same done (source d n (k / w + 1) (k % w + 1)) (ap (λ z. done (source d n z (k % w + 1)).0) e ∙ sources (k % w + 1)))
       ∙ ap (λ x. cond (covers w r k) (incoming_at r d n g k) x) (replaced_out (λ i. done (i / w + 1)) settled g k h (ap done e ∙ unread))
       ∙ sym (cond-true (more (k / w + 1)) (settled k) (get_or g.cells k erased) (ap more e ∙ written)))
       (λ ne. cond-false (here k) (incoming_at r d n t k) (get_or t.cells k erased) (and_left _ _ (ne_eqb (k / w + 1) line ne))
-      ∙ getD_replaced (λ i. done (i / w + 1)) settled g k low
+      ∙ get_or_replaced (λ i. done (i / w + 1)) settled g k low
       ∙ ap (λ b. cond b (settled k) (get_or g.cells k erased)) (sym (same (k / w + 1) ne)))
       (cases_eq (k / w + 1) line))
 
@@ -293,7 +293,7 @@ module _ (g : Grid) (h : Whole g) (r : Rectangle) (fit : Fit g.lines g.columns r
   pub lines_all : (done : ℕ → Bool) → ((l c : ℕ) → done l ≡ false → in_rectangle r l c ≡ false) → lines_done done ≡ shifted r d n g
   lines_all done stay =
       is_replaced (covers g.columns r) (incoming_at r d n g) g (lines_done done).cells (length_replaced (λ k. done (k / g.columns + 1)) settled g) (λ k low.
-      getD_replaced (λ i. done (i / g.columns + 1)) settled g k low
+      get_or_replaced (λ i. done (i / g.columns + 1)) settled g k low
       ∙ ⊎_elim
       (λ t. cond-true (done (k / g.columns + 1)) (settled k) (get_or g.cells k erased) t)
       (λ f. cond-false (done (k / g.columns + 1)) (settled k) (get_or g.cells k erased) f ∙ sym (cond-false (covers g.columns r k) (incoming_at r d n g k) _ (stay (k / g.columns + 1) (k % g.columns + 1) f)))

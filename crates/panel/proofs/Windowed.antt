@@ -9,7 +9,7 @@ use Rattle.panel.specs.Screens.{Screen, Sound, around, with_grid, set_on, erase_
 use Rattle.panel.specs.Rectangles.{Fit, framed, covers}
 use Rattle.panel.specs.Windows.{under, beneath, windowed, through, seen, masked}
 use Rattle.panel.proofs.Places.{Within, within_true, true_within, index_lt}
-use Rattle.panel.proofs.Seen.{getD_seen, seen_set, seen_wiped}
+use Rattle.panel.proofs.Seen.{get_or_seen, seen_set, seen_wiped}
 use Rattle.panel.proofs.Replaced.{replaced_under_set, replaced_under_wiped}
 use Rattle.panel.proofs.Framed.{framed_fit, under_at, within_below, under_inj, under_lt, under_run, covers_under, pos}
 
@@ -54,7 +54,7 @@ module _ (s : Screen) (h : Sound s) (f : Rectangle) (fit : Fit s.grid.lines s.gr
   pub through_cell : cell_answer s.grid l c ≡ cell_answer (through f s).grid line column
   through_cell =
       cond-true _ _ _ below_on
-      ∙ ap accepted (ap (λ z. get_or s.grid.cells z erased) below_is ∙ sym (getD_seen (under s.grid.columns f) (f.lines * f.columns) s.grid.cells k in_window))
+      ∙ ap accepted (ap (λ z. get_or s.grid.cells z erased) below_is ∙ sym (get_or_seen (under s.grid.columns f) (f.lines * f.columns) s.grid.cells k in_window))
       ∙ sym (cond-true _ _ _ b.test)
 
   pub through_done : done_if (on s.grid l c) l c ≡ done_if (on (through f s).grid line column) line column

@@ -3,7 +3,7 @@ use Rattle.std.proofs.Common.{◌≡◌, ℕ, suc, ◌+◌, ◌-◌, ◌*◌, �
 use Rattle.std.proofs.lemmas.Bool.{cond-true, cond-false, cond_both, ltb-true, ltb-false, leb-true, le-leb, and_from}
 use Rattle.std.proofs.lemmas.Bool.Decides.{nat_tests}
 use Rattle.reader.specs.declared.item.Kind.TheVariants.{Sequence}
-use Rattle.reader.specs.Bytes.{among, isGraphic, isDigit, isSeparator, isParameter, isIntermediate, isOpener, endsSequence, AllOf}
+use Rattle.reader.specs.Bytes.{among, is_graphic, is_digit, is_separator, is_parameter, is_intermediate, is_opener, ends_sequence, AllOf}
 use Rattle.reader.specs.Functions.{Parameter, Parameters, Function, graphic, control, reset, sequence}
 use Rattle.reader.specs.Steps.{Standing, Outcome, rest, escape, at_rest, step, standing_after, performed}
 use Rattle.reader.specs.Items.{Sequenced}
@@ -12,12 +12,12 @@ use Rattle.reader.proofs.Parts.{standing_parts, performed_parts}
 use Rattle.reader.proofs.Sequences.{sequence_performed}
 use Rattle.reader.proofs.Endings.{behind_item}
 use Rattle.picture.specs.Writing.{digits, parameter_bytes, more_bytes, parameters_bytes, space_bytes, written, all_written}
-use Rattle.picture.specs.Writable.{isSingle, Small, Fits, Writable, ReadsBack}
+use Rattle.picture.specs.Writable.{is_single, Small, Fits, Writable, ReadsBack}
 
 -- digits that read as a number
 record Reads (n : ℕ) (l : List ℕ) : Type 0 where
   is : value l ≡ Some n
-  all : AllOf isDigit l
+  all : AllOf is_digit l
 
 figure : (x : ℕ) → 0x30 + x - 0x30 ≡ x
 figure x = omega arith
@@ -44,7 +44,7 @@ digits_read n h =
     (λ e. let a = ltb-true n 1000 e in record { is = ap Some (omega arith); all = (grind (arith, nat_tests), (grind (arith, nat_tests), (grind (arith, nat_tests), tt))) })
     (λ e. let b = ltb-false n 1000 e in record { is = ap Some (four n h); all = (grind (arith, nat_tests), (grind (arith, nat_tests), (grind (arith, nat_tests), (grind (arith, nat_tests), tt)))) })))
 
-digits_all : (p : Parameter) (ps : List Parameter) → Small (p ∷ ps) → AllOf isDigit (parameter_bytes p)
+digits_all : (p : Parameter) (ps : List Parameter) → Small (p ∷ ps) → AllOf is_digit (parameter_bytes p)
 digits_all None ps s = tt
 digits_all (Some n) ps s = (digits_read n s.0).all
 
@@ -53,29 +53,29 @@ small_rest None ps s = s
 small_rest (Some n) ps s = s.1
 
 -- the parts of a parameter string are those of its parameters
-no_separator : (d : ℕ) → isDigit d ≡ true → isSeparator d ≡ false
+no_separator : (d : ℕ) → is_digit d ≡ true → is_separator d ≡ false
 no_separator d h = grind (arith, nat_tests)
 
-digit_plain : (d : ℕ) → isDigit d ≡ true → (isDigit d || isSeparator d) ≡ true
+digit_plain : (d : ℕ) → is_digit d ≡ true → (is_digit d || is_separator d) ≡ true
 digit_plain d h = grind (arith, nat_tests)
 
-parts_more : (ds : List ℕ) (ps : List Parameter) → AllOf isDigit ds → Small ps → parts (ds ++ more_bytes ps) ≡ ds ∷ map parameter_bytes ps
+parts_more : (ds : List ℕ) (ps : List Parameter) → AllOf is_digit ds → Small ps → parts (ds ++ more_bytes ps) ≡ ds ∷ map parameter_bytes ps
 parts_more [] [] a s = refl
 parts_more [] (p ∷ ps) a s = ap (λ (l : List (List ℕ)). [] ∷ l) (parts_more (parameter_bytes p) ps (digits_all p ps s) (small_rest p ps s))
-parts_more (d ∷ ds) ps a s = cond-false (isSeparator d) _ _ (no_separator d a.0) ∙ ap (onto d) (parts_more ds ps a.1 s)
+parts_more (d ∷ ds) ps a s = cond-false (is_separator d) _ _ (no_separator d a.0) ∙ ap (onto d) (parts_more ds ps a.1 s)
 
-plain_more : (ds : List ℕ) (ps : List Parameter) → AllOf isDigit ds → Small ps → plain (ds ++ more_bytes ps) ≡ true
+plain_more : (ds : List ℕ) (ps : List Parameter) → AllOf is_digit ds → Small ps → plain (ds ++ more_bytes ps) ≡ true
 plain_more [] [] a s = refl
 plain_more [] (p ∷ ps) a s = plain_more (parameter_bytes p) ps (digits_all p ps s) (small_rest p ps s)
-plain_more (d ∷ ds) ps a s = and_from (isDigit d || isSeparator d) _ (digit_plain d a.0) (plain_more ds ps a.1 s)
+plain_more (d ∷ ds) ps a s = and_from (is_digit d || is_separator d) _ (digit_plain d a.0) (plain_more ds ps a.1 s)
 
-parameter_more : (ds : List ℕ) (ps : List Parameter) → AllOf isDigit ds → Small ps → AllOf isParameter (ds ++ more_bytes ps)
+parameter_more : (ds : List ℕ) (ps : List Parameter) → AllOf is_digit ds → Small ps → AllOf is_parameter (ds ++ more_bytes ps)
 parameter_more [] [] a s = tt
 parameter_more [] (p ∷ ps) a s = (refl, parameter_more (parameter_bytes p) ps (digits_all p ps s) (small_rest p ps s))
-parameter_more (d ∷ ds) ps a s = (is_parameter d a.0, parameter_more ds ps a.1 s)
+parameter_more (d ∷ ds) ps a s = (digit_is_parameter d a.0, parameter_more ds ps a.1 s)
   where
-    is_parameter : (d : ℕ) → isDigit d ≡ true → isParameter d ≡ true
-    is_parameter d h = grind (arith, nat_tests)
+    digit_is_parameter : (d : ℕ) → is_digit d ≡ true → is_parameter d ≡ true
+    digit_is_parameter d h = grind (arith, nat_tests)
 
 values_back : (ps : List Parameter) → Small ps → map value (map parameter_bytes ps) ≡ ps
 values_back [] s = refl
@@ -108,7 +108,7 @@ append_some : (xs ys : List ℕ) → (xs ≡ [] → ⊥) → xs ++ ys ≡ [] →
 append_some [] ys h e = h refl
 append_some (x ∷ xs) ys h e = cons_some x _ e
 
-pub numbers_back : (ps : List Parameter) → Fits ps → (numbers (parameters_bytes ps) ≡ Some ps) × AllOf isParameter (parameters_bytes ps)
+pub numbers_back : (ps : List Parameter) → Fits ps → (numbers (parameters_bytes ps) ≡ Some ps) × AllOf is_parameter (parameters_bytes ps)
 numbers_back [] f = (refl, tt)
 numbers_back (None ∷ []) f = absurd f.told
 numbers_back (None ∷ p ∷ ps) f = (
@@ -129,38 +129,38 @@ record Back (f : Function) (l : List ℕ) : Type 0 where
 abbrev ended : Function → Outcome
 ended f = record { standing = rest; performs = f ∷ [] }
 
-single_ends : (b : ℕ) → isSingle b ≡ true → step rest b ≡ ended (control b)
+single_ends : (b : ℕ) → is_single b ≡ true → step rest b ≡ ended (control b)
 unfolding at_rest
 single_ends b h =
-    let g : isGraphic b ≡ false = grind (arith, nat_tests) in
+    let g : is_graphic b ≡ false = grind (arith, nat_tests) in
     let d : (eqb b 0x7F || eqb b 0x9C) ≡ false = grind (arith, nat_tests) in
     let e : eqb b 0x1B ≡ false = grind (arith, nat_tests) in
     let c : eqb b 0x9B ≡ false = grind (arith, nat_tests) in
-    let o : isOpener b ≡ false = grind (arith, nat_tests) in
+    let o : is_opener b ≡ false = grind (arith, nat_tests) in
     let s : eqb b 0x98 ≡ false = grind (arith, nat_tests) in
-    cond-false (isGraphic b) _ _ g ∙ cond-false (eqb b 0x7F || eqb b 0x9C) _ _ d ∙ cond-false (eqb b 0x1B) _ _ e ∙ cond-false (eqb b 0x9B) _ _ c ∙ cond-false (isOpener b) _ _ o ∙ cond-false (eqb b 0x98) _ _ s
+    cond-false (is_graphic b) _ _ g ∙ cond-false (eqb b 0x7F || eqb b 0x9C) _ _ d ∙ cond-false (eqb b 0x1B) _ _ e ∙ cond-false (eqb b 0x9B) _ _ c ∙ cond-false (is_opener b) _ _ o ∙ cond-false (eqb b 0x98) _ _ s
 
 -- ESC and the byte 64 lower stand for it
-escaped_is : (b : ℕ) → isSingle b ≡ true → leb 0x80 b ≡ true → step (escape false) (b - 64) ≡ step rest b
+escaped_is : (b : ℕ) → is_single b ≡ true → leb 0x80 b ≡ true → step (escape false) (b - 64) ≡ step rest b
 escaped_is b h l =
-    let noti : isIntermediate (b - 64) ≡ false = grind (arith, nat_tests) in
+    let noti : is_intermediate (b - 64) ≡ false = grind (arith, nat_tests) in
     let fin : among 0x30 0x7E (b - 64) ≡ true = grind (arith, nat_tests) in
     let mid : among 0x40 0x5F (b - 64) ≡ true = grind (arith, nat_tests) in
     let above = leb-true 0x80 b l in
     let back : (b - 64) + 64 ≡ b = omega arith in
-    cond-false (isIntermediate (b - 64)) _ _ noti ∙ cond-true (among 0x30 0x7E (b - 64)) _ _ fin ∙ cond-true (among 0x40 0x5F (b - 64)) _ _ mid ∙ ap at_rest back
+    cond-false (is_intermediate (b - 64)) _ _ noti ∙ cond-true (among 0x30 0x7E (b - 64)) _ _ fin ∙ cond-true (among 0x40 0x5F (b - 64)) _ _ mid ∙ ap at_rest back
 
 by_step : (f : Function) (b : ℕ) (s : Standing) → step s b ≡ ended f → (performed s (b ∷ []) ≡ f ∷ []) × (standing_after s (b ∷ []) ≡ rest)
 by_step f b s o = (ap (λ (q : Outcome). q.performs ++ performed q.standing []) o, ap (λ (q : Outcome). q.standing) o)
 
-control_back : (b : ℕ) → isSingle b ≡ true → Back (control b) (cond (leb 0x80 b) (0x1B ∷ (b - 64) ∷ []) (b ∷ []))
+control_back : (b : ℕ) → is_single b ≡ true → Back (control b) (cond (leb 0x80 b) (0x1B ∷ (b - 64) ∷ []) (b ∷ []))
 unfolding at_rest
 control_back b h =
     cond_both (leb 0x80 b) (0x1B ∷ (b - 64) ∷ []) (b ∷ []) (Back (control b))
     (λ e. let o = by_step (control b) (b - 64) (escape false) (escaped_is b h e ∙ single_ends b h) in record { performs = o.0; rests = o.1 })
     (λ e. let o = by_step (control b) b rest (single_ends b h) in record { performs = o.0; rests = o.1 })
 
-spaces : (space : Bool) → AllOf isIntermediate (space_bytes space)
+spaces : (space : Bool) → AllOf is_intermediate (space_bytes space)
 spaces true = (refl, tt)
 spaces false = tt
 
@@ -168,7 +168,7 @@ spaced : (ps : List Parameter) (space : Bool) (f : ℕ) → sequence_performs (S
 spaced ps true f = refl
 spaced ps false f = refl
 
-pub sequence_form : (ps : List Parameter) (space : Bool) (f : ℕ) → Fits ps → endsSequence f ≡ true → Sequenced (0x1B ∷ 0x5B ∷ (parameters_bytes ps ++ (space_bytes space ++ (f ∷ []))))
+pub sequence_form : (ps : List Parameter) (space : Bool) (f : ℕ) → Fits ps → ends_sequence f ≡ true → Sequenced (0x1B ∷ 0x5B ∷ (parameters_bytes ps ++ (space_bytes space ++ (f ∷ []))))
 sequence_form ps space f h e = record {
   csi = 0x1B ∷ 0x5B ∷ [];
   parameters = parameters_bytes ps;
@@ -181,7 +181,7 @@ sequence_form ps space f h e = record {
   ends = e;
 }
 
-sequence_back : (ps : List Parameter) (space : Bool) (f : ℕ) → Fits ps → endsSequence f ≡ true → Back (sequence ps space f) (0x1B ∷ 0x5B ∷ (parameters_bytes ps ++ (space_bytes space ++ (f ∷ []))))
+sequence_back : (ps : List Parameter) (space : Bool) (f : ℕ) → Fits ps → ends_sequence f ≡ true → Back (sequence ps space f) (0x1B ∷ 0x5B ∷ (parameters_bytes ps ++ (space_bytes space ++ (f ∷ []))))
 sequence_back ps space f h e =
     let form = sequence_form ps space f h e in
     record {
@@ -194,7 +194,7 @@ sequence_back ps space f h e =
 
 back : (f : Function) → Writable f → Back f (written f)
 unfolding written at_rest
-back (graphic b) h = let o = by_step (graphic b) b rest (cond-true (isGraphic b) _ _ h) in record { performs = o.0; rests = o.1 }
+back (graphic b) h = let o = by_step (graphic b) b rest (cond-true (is_graphic b) _ _ h) in record { performs = o.0; rests = o.1 }
 back (control b) h = control_back b h
 back reset h = record { performs = refl; rests = refl }
 back (sequence ps space f) h = sequence_back ps space f h.0 h.1

@@ -6,7 +6,7 @@ use Rattle.std.proofs.lemmas.Bool.Decides.{nat_tests}
 use Rattle.panel.specs.declared.cell.Cell.{Cell}
 use Rattle.panel.specs.Grids.{erased, within, index_in}
 use Rattle.panel.proofs.Places.{true_within}
-use Rattle.reader.specs.Bytes.{isGraphic}
+use Rattle.reader.specs.Bytes.{is_graphic}
 use Rattle.reader.specs.Functions.{Function, graphic, control}
 use Rattle.reader.specs.Steps.{rest}
 use Rattle.control.specs.declared.rendition.Rendition.{Rendition}
@@ -22,7 +22,7 @@ use Rattle.picture.proofs.Drawing.{acts, acts_append, moves, renders, shows}
 abbrev cell : ℕ → ℕ → Cell
 cell c r = record { code = c; rendition = r }
 
-fine : (c r : ℕ) → foreign (cell c r) ≡ false → is_erased (cell c r) ≡ false → (isGraphic c ≡ true) × (r < 34992)
+fine : (c r : ℕ) → foreign (cell c r) ≡ false → is_erased (cell c r) ≡ false → (is_graphic c ≡ true) × (r < 34992)
 fine c r f e = (grind (arith, nat_tests), grind (arith, nat_tests))
 
 gone : (x : Cell) → is_erased x ≡ true → x ≡ erased
@@ -180,7 +180,7 @@ module _ (h w : ℕ) (t v : List Bool) where
 pub record Drawn (P : Function → Type 0) : Type 0 where
   pub cups : (l c : ℕ) → l ≤ 9999 → c ≤ 9999 → P (cup l c)
   pub sgrs : (r : Rendition) → P (sgr r)
-  pub shows : (c : ℕ) → isGraphic c ≡ true → P (graphic c)
+  pub shows : (c : ℕ) → is_graphic c ≡ true → P (graphic c)
   pub others : (n f : ℕ) → n ≤ 9999 → (f ≡ 0x67) ⊎ (f ≡ 0x68) → P (numbered (n ∷ []) f)
   pub column_stop : P (control 0x88)
   pub line_stop : P (control 0x8A)

@@ -4,12 +4,12 @@ use Rattle.std.proofs.lemmas.Bool.{true≢false, and_parts, leb-true, cond-true,
 use Rattle.std.proofs.lemmas.Bool.Decides.{nat_tests}
 use Rattle.reader.specs.declared.item.Kind.{Kind}
 use Rattle.reader.specs.declared.item.Kind.TheVariants.{Text, Control, Escape, Sequence, String}
-use Rattle.reader.specs.Bytes.{among, isGraphic, isIntermediate, isOpener, isBody, endsSequence, endsEscape, AllOf, Stops}
+use Rattle.reader.specs.Bytes.{among, is_graphic, is_intermediate, is_opener, is_body, ends_sequence, ends_escape, AllOf, Stops}
 use Rattle.reader.specs.Functions.{Parameter, Function, graphic, control, sequence}
 use Rattle.reader.specs.Steps.{Standing, rest, standing_after, performed}
 use Rattle.reader.specs.Numbers.{numbers, sequence_performs}
 use Rattle.reader.specs.Performs.{control_performs, escape_performs, item_performs, is_rest}
-use Rattle.reader.specs.Items.{Form, Escaped, Sequenced, Enclosed, is_lone, isBeginning}
+use Rattle.reader.specs.Items.{Form, Escaped, Sequenced, Enclosed, is_lone, is_beginning}
 use Rattle.reader.proofs.Parts.{standing_parts, performed_parts}
 use Rattle.reader.proofs.Endings.{behind_item}
 use Rattle.reader.proofs.Grammar.{items_perform}
@@ -33,8 +33,8 @@ all_of : (P : ℕ → Bool) (bs : List ℕ) → every P bs ≡ true → AllOf P 
 all_of P [] h = tt
 all_of P (b ∷ bs) h = let p = and_parts (P b) (every P bs) h in (p.0, all_of P bs p.1)
 
-text_form : (bs after : List ℕ) → is_text bs ≡ true → 0 < length bs → Stops isGraphic after → Form Text bs after
-text_form bs after h some stops = (some, all_of isGraphic bs h, stops)
+text_form : (bs after : List ℕ) → is_text bs ≡ true → 0 < length bs → Stops is_graphic after → Form Text bs after
+text_form bs after h some stops = (some, all_of is_graphic bs h, stops)
 
 text_performs : (bs : List ℕ) → is_text bs ≡ true → Performs bs (map graphic bs)
 text_performs [] h = record { functions = refl; rests = refl }
@@ -55,10 +55,10 @@ control_form b after h e = ((b, cond-false (leb 0x80 b) _ _ e, lone b h), refl)
 back : (b : ℕ) → leb 0x80 b ≡ true → b - 64 + 64 ≡ b
 back b e = let h = leb-true 0x80 b e in omega arith
 
-beginning : (b : ℕ) → is_control b ≡ true → isBeginning b ≡ false
+beginning : (b : ℕ) → is_control b ≡ true → is_beginning b ≡ false
 beginning b h = grind (arith, nat_tests)
 
-final_ends : (b : ℕ) → is_control b ≡ true → leb 0x80 b ≡ true → endsEscape (b - 64) ≡ true
+final_ends : (b : ℕ) → is_control b ≡ true → leb 0x80 b ≡ true → ends_escape (b - 64) ≡ true
 final_ends b h e = grind (arith, nat_tests)
 
 final_stands : (b : ℕ) → is_control b ≡ true → leb 0x80 b ≡ true → among 0x40 0x5F (b - 64) ≡ true
@@ -73,7 +73,7 @@ escape_form b h e = (
     spelled = cond-true (leb 0x80 b) _ _ e;
     intermediate = tt;
     ends = final_ends b h e;
-    alone = λ z. ap isBeginning (back b e) ∙ beginning b h;
+    alone = λ z. ap is_beginning (back b e) ∙ beginning b h;
   },
   refl,
   refl,
@@ -105,14 +105,14 @@ lone_told (None ∷ []) h = absurd (true≢false (sym h))
 lone_told (None ∷ q ∷ ps) h = tt
 lone_told (Some n ∷ ps) h = tt
 
-fits : (ps : List Parameter) (f : ℕ) → is_sequence ps f ≡ true → Fits ps × (endsSequence f ≡ true)
+fits : (ps : List Parameter) (f : ℕ) → is_sequence ps f ≡ true → Fits ps × (ends_sequence f ≡ true)
 fits ps f h =
     let p = and_parts (leb (length ps) 16) _ h in
     let q = and_parts (every is_small ps) _ p.1 in
-    let r = and_parts (is_told ps) (endsSequence f) q.1 in
+    let r = and_parts (is_told ps) (ends_sequence f) q.1 in
     (record { small = all_below ps q.0; told = lone_told ps r.0; few = leb-true _ _ p.0 }, r.1)
 
-spaces : (space : Bool) → AllOf isIntermediate (space_bytes space)
+spaces : (space : Bool) → AllOf is_intermediate (space_bytes space)
 spaces true = (refl, tt)
 spaces false = tt
 
@@ -156,11 +156,11 @@ sequence_reads ps space f h =
 
 -- strings
 pub opener_high : (k : ℕ) (body : List ℕ) → is_string k body ≡ true → 64 ≤ k
-opener_high k body h = let p = (and_parts (isOpener k) (every isBody body) h).0 in grind (arith, nat_tests)
+opener_high k body h = let p = (and_parts (is_opener k) (every is_body body) h).0 in grind (arith, nat_tests)
 
-string_form : (k : ℕ) (body : List ℕ) → is_string k body ≡ true → (i : Enclosed isOpener (AllOf isBody) (string_bytes k body)) × (i.by ≡ k) × (i.body ≡ body)
+string_form : (k : ℕ) (body : List ℕ) → is_string k body ≡ true → (i : Enclosed is_opener (AllOf is_body) (string_bytes k body)) × (i.by ≡ k) × (i.body ≡ body)
 string_form k body h =
-    let p = and_parts (isOpener k) (every isBody body) h in (
+    let p = and_parts (is_opener k) (every is_body body) h in (
       record {
         by = k;
         opener = 0x1B ∷ (k - 64) ∷ [];
@@ -169,7 +169,7 @@ string_form k body h =
         spelled = refl;
         known = p.0;
         opens = inr refl;
-        within = all_of isBody body p.1;
+        within = all_of is_body body p.1;
         ends = inr refl;
       },
       refl,

@@ -2,7 +2,7 @@
 use Rattle.std.proofs.Common.{◌≡◌, ℕ, Bool, true, false, cond, ◌&&◌, eqb, leb, List, [], ◌∷◌, map, length, Some, None, Err, Result, sym, refl, ap, ◌∙◌, subst, ⊎_elim, arith}
 use Rattle.std.proofs.lemmas.List.{length-map}
 use Rattle.std.proofs.lemmas.Bool.{true≢false, and_parts, and_from, le-leb, cases_Bool, cond-true, cond-false}
-use Rattle.reader.specs.Bytes.{isSeparator, endsSequence}
+use Rattle.reader.specs.Bytes.{is_separator, ends_sequence}
 use Rattle.reader.specs.Functions.{Parameter, Parameters, Function, graphic, control, reset, sequence}
 use Rattle.reader.specs.Numbers.{onto, parts, value, plain, numbers, sequence_performs}
 use Rattle.refusal.specs.declared.Refusal.{Refusal}
@@ -67,10 +67,10 @@ onto_second b (p ∷ l) = refl
 
 behind_separator : (bs : List ℕ) → is_told (map value ([] ∷ parts bs)) ≡ true
 behind_separator [] = refl
-behind_separator (b ∷ bs) = elim (isSeparator b) as (λ t. is_told (map value ([] ∷ cond t ([] ∷ parts bs) (onto b (parts bs)))) ≡ true) [ true ↦ refl | false ↦ onto_second b (parts bs) ]
+behind_separator (b ∷ bs) = elim (is_separator b) as (λ t. is_told (map value ([] ∷ cond t ([] ∷ parts bs) (onto b (parts bs)))) ≡ true) [ true ↦ refl | false ↦ onto_second b (parts bs) ]
 
 parts_told : (b : ℕ) (bs : List ℕ) → is_told (map value (parts (b ∷ bs))) ≡ true
-parts_told b bs = elim (isSeparator b) as (λ t. is_told (map value (cond t ([] ∷ parts bs) (onto b (parts bs)))) ≡ true) [ true ↦ behind_separator bs | false ↦ onto_told b (parts bs) ]
+parts_told b bs = elim (is_separator b) as (λ t. is_told (map value (cond t ([] ∷ parts bs) (onto b (parts bs)))) ≡ true) [ true ↦ behind_separator bs | false ↦ onto_told b (parts bs) ]
 
 abbrev some_of : Parameters → List Parameter
 some_of None = []
@@ -99,7 +99,7 @@ pub sequence_rewrites : SequenceRewrites
 sequence_rewrites x i ps space f e =
     let t = told ps space f (numbers i.parameters) i.between i.final e in
     let n = fine i.parameters ps t.0 in
-    and_from _ _ n.0 (and_from _ _ n.1.0 (and_from _ _ n.1.1 (sym (ap endsSequence t.1) ∙ i.ends)))
+    and_from _ _ n.0 (and_from _ _ n.1.0 (and_from _ _ n.1.1 (sym (ap ends_sequence t.1) ∙ i.ends)))
 
 -- a sequence that an item tells, and an item that tells none
 pub told_again : (fs : List Function) (qs ps : List Parameter) (space : Bool) (f : ℕ) {r : Result ℕ Refusal} {b b' : List ℕ}

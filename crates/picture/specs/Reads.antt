@@ -1,7 +1,7 @@
 -- What was written reads back.
 use Rattle.std.specs.Prelude.{◌≡◌, ℕ, ◌-◌, ◌<◌, Bool, true, false, List, [], ◌∷◌, ◌++◌, map, length, Some, nat_le}
 use Rattle.reader.specs.declared.item.Kind.TheVariants.{Text, Control, Escape, Sequence}
-use Rattle.reader.specs.Bytes.{isGraphic, isOpener, isBody, AllOf, Stops}
+use Rattle.reader.specs.Bytes.{is_graphic, is_opener, is_body, AllOf, Stops}
 use Rattle.reader.specs.Functions.{Parameter, Function, graphic, control, sequence}
 use Rattle.reader.specs.Steps.{rest, standing_after, performed}
 use Rattle.reader.specs.Numbers.{numbers, sequence_performs}
@@ -23,7 +23,7 @@ ReadsInARow = (xs ys : List ℕ) (fs gs : List Function) → Performs xs fs → 
 abbrev pub TextReads : Type 0
 TextReads =
     (bs : List ℕ) → is_text bs ≡ true
-    → Performs bs (map graphic bs) × ((after : List ℕ) → 0 < length bs → Stops isGraphic after → Form Text bs after)
+    → Performs bs (map graphic bs) × ((after : List ℕ) → 0 < length bs → Stops is_graphic after → Form Text bs after)
 
 -- a C0 control is one item, of that byte, and a C1 control is one escape, with the final byte 64 lower
 abbrev pub ControlReads : Type 0
@@ -45,7 +45,7 @@ abbrev pub StringReads : Type 0
 StringReads =
     (k : ℕ) (body : List ℕ) → is_string k body ≡ true
     → Performs (string_bytes k body) []
-    × ((i : Enclosed isOpener (AllOf isBody) (string_bytes k body)) × (i.by ≡ k) × (i.body ≡ body))
+    × ((i : Enclosed is_opener (AllOf is_body) (string_bytes k body)) × (i.by ≡ k) × (i.body ≡ body))
 
 -- a sequence that was read within the bounds is in range, so that it can be written again
 abbrev pub SequenceRewrites : Type 0

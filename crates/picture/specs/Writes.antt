@@ -4,9 +4,9 @@ use Rattle.refusal.specs.Table.{Answer, refused, answer}
 use Rattle.refusal.specs.declared.Refusal.{Refusal}
 use Rattle.refusal.specs.declared.Layer.TheVariants as layer
 use Rattle.refusal.specs.declared.Place.TheVariants.{Nowhere}
-use Rattle.reader.specs.Bytes.{among, isGraphic, isOpener, isBody, endsSequence}
+use Rattle.reader.specs.Bytes.{among, is_graphic, is_opener, is_body, ends_sequence}
 use Rattle.reader.specs.Functions.{Parameter, Function, graphic, control, reset, sequence}
-use Rattle.reader.specs.Items.{isBeginning}
+use Rattle.reader.specs.Items.{is_beginning}
 use Rattle.picture.specs.Writing.{written}
 use Rattle.picture.specs.Calls.{front_answer, front_bytes}
 use Rattle.picture.specs.Tape.{over}
@@ -17,11 +17,11 @@ every p (x ∷ xs) = p x && every p xs
 
 -- graphic characters
 abbrev pub is_text : List ℕ → Bool
-is_text bs = every isGraphic bs
+is_text bs = every is_graphic bs
 
 -- a C0 control but ESC, or a C1 control but CSI, SOS and the openers
 abbrev pub is_control : ℕ → Bool
-is_control b = (nat_lt b 0x20 && not (b == 0x1B)) || (among 0x80 0x9F b && not (isBeginning b))
+is_control b = (nat_lt b 0x20 && not (b == 0x1B)) || (among 0x80 0x9F b && not (is_beginning b))
 
 -- an empty parameter, or a number up to 9,999
 abbrev pub is_small : Parameter → Bool
@@ -40,11 +40,11 @@ is_told (p ∷ q ∷ ps) = true
 
 -- at most sixteen parameters, and a final byte of a sequence
 abbrev pub is_sequence : List Parameter → ℕ → Bool
-is_sequence ps f = nat_le (length ps) 16 && (every is_small ps && (is_told ps && endsSequence f))
+is_sequence ps f = nat_le (length ps) 16 && (every is_small ps && (is_told ps && ends_sequence f))
 
 -- an opener by its 8-bit code, and a body
 abbrev pub is_string : ℕ → List ℕ → Bool
-is_string k body = isOpener k && every isBody body
+is_string k body = is_opener k && every is_body body
 
 -- a string: its opener as ESC and the byte 64 lower, its body, and ST as ESC \
 abbrev pub string_bytes : ℕ → List ℕ → List ℕ

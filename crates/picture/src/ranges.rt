@@ -1,10 +1,10 @@
 // What the writer can be asked for.
 ghost use Rattle.std.specs.Prelude.{◌≡◌};
-ghost use Rattle.reader.specs.Bytes.{isGraphic, isOpener, isBody};
+ghost use Rattle.reader.specs.Bytes.{is_graphic, is_opener, is_body};
 ghost use Rattle.picture.specs.Writes.{every, is_text, is_control, is_small, has_value, is_told, is_sequence, is_string};
 
 fn is_graphic(b: u8) -> bool
-    ensures { result ≡ isGraphic b }
+    ensures { result ≡ is_graphic b }
 {
     0x20 <= b && b <= 0x7E || 0xA0 <= b
 }
@@ -78,19 +78,19 @@ pub(crate) fn is_sequence(parameters: &[Option<u16>], final_byte: u8) -> bool
 }
 
 fn is_opener(b: u8) -> bool
-    ensures { result ≡ isOpener b }
+    ensures { result ≡ is_opener b }
 {
     b == 0x90 || 0x9D <= b && b <= 0x9F
 }
 
 fn is_body_byte(b: u8) -> bool
-    ensures { result ≡ isBody b }
+    ensures { result ≡ is_body b }
 {
     0x08 <= b && b <= 0x0D || 0x20 <= b && b <= 0x7E
 }
 
 fn is_body(body: &[u8]) -> bool
-    ensures { result ≡ every isBody body.now }
+    ensures { result ≡ every is_body body.now }
 {
     for b in body {
         if !is_body_byte(*b) {

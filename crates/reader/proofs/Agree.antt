@@ -2,7 +2,7 @@
 use Rattle.std.proofs.Common.{◌≡◌, ℕ, ◌-◌, Bool, true, false, cond, ◌&&◌, eqb, leb, ◌⊎◌, List, [], ◌∷◌, ◌++◌, Some, None, sym, refl, ap, ◌∙◌, subst, inl, inr, ⊎_elim, arith}
 use Rattle.std.proofs.lemmas.Bool.{cond-true, cond-false, leb-true, eqb-true, and_parts, or_cases, or_parts, or_from}
 use Rattle.std.proofs.lemmas.Bool.Decides.{nat_tests}
-use Rattle.reader.specs.Bytes.{AllOf, Stops, among, isGraphic, isOpener, isBody, isIntermediate, isParameter}
+use Rattle.reader.specs.Bytes.{AllOf, Stops, among, is_graphic, is_opener, is_body, is_intermediate, is_parameter}
 use Rattle.reader.specs.Functions.{Parameters}
 use Rattle.reader.specs.Steps.{Standing, Outcome, to, at_rest, step, standing_after, performed, rest, escape, in_parameters, in_intermediates, in_string, in_sos, with_byte}
 use Rattle.reader.specs.Items.{Spells, begins, is_lone, Free}
@@ -13,18 +13,18 @@ pub stays : (P : ℕ → Bool) (s : Standing) → ((b : ℕ) → P b ≡ true �
 stays P s h [] a = refl
 stays P s h (b ∷ bs) a = ap (λ (q : Standing). standing_after q bs) (h b a.0) ∙ stays P s h bs a.1
 
-pub rest_graphic : (b : ℕ) → isGraphic b ≡ true → (step rest b).standing ≡ rest
+pub rest_graphic : (b : ℕ) → is_graphic b ≡ true → (step rest b).standing ≡ rest
 unfolding at_rest
-rest_graphic b h = ap (λ (o : Outcome). o.standing) (cond-true (isGraphic b) _ _ h)
+rest_graphic b h = ap (λ (o : Outcome). o.standing) (cond-true (is_graphic b) _ _ h)
 
-pub escape_between : (b : ℕ) → isIntermediate b ≡ true → (step (escape true) b).standing ≡ escape true
-escape_between b h = ap (λ (o : Outcome). o.standing) (cond-true (isIntermediate b) _ _ h)
+pub escape_between : (b : ℕ) → is_intermediate b ≡ true → (step (escape true) b).standing ≡ escape true
+escape_between b h = ap (λ (o : Outcome). o.standing) (cond-true (is_intermediate b) _ _ h)
 
-pub string_body : (b : ℕ) → isBody b ≡ true → (step in_string b).standing ≡ in_string
-string_body b h = ap (λ (o : Outcome). o.standing) (cond-true (isBody b) _ _ h)
+pub string_body : (b : ℕ) → is_body b ≡ true → (step in_string b).standing ≡ in_string
+string_body b h = ap (λ (o : Outcome). o.standing) (cond-true (is_body b) _ _ h)
 
-more_between : (b : ℕ) → isIntermediate b ≡ true → (step (in_intermediates None) b).standing ≡ in_intermediates None
-more_between b h = ap (λ (o : Outcome). o.standing) (cond-true (isIntermediate b) _ _ h)
+more_between : (b : ℕ) → is_intermediate b ≡ true → (step (in_intermediates None) b).standing ≡ in_intermediates None
+more_between b h = ap (λ (o : Outcome). o.standing) (cond-true (is_intermediate b) _ _ h)
 
 pub rest_lone : (b : ℕ) → is_lone b ≡ true → (step rest b).standing ≡ rest
 unfolding at_rest
@@ -41,7 +41,7 @@ unfolding at_rest
 sos_leads c (inl e) = ap (standing_after rest) e
 sos_leads c (inr e) = ap (standing_after rest) e
 
-which_opener : (k : ℕ) → isOpener k ≡ true → (k ≡ 0x90) ⊎ ((k ≡ 0x9D) ⊎ ((k ≡ 0x9E) ⊎ (k ≡ 0x9F)))
+which_opener : (k : ℕ) → is_opener k ≡ true → (k ≡ 0x90) ⊎ ((k ≡ 0x9D) ⊎ ((k ≡ 0x9E) ⊎ (k ≡ 0x9F)))
 which_opener k h =
     ⊎_elim (λ e. inl (eqb-true k 0x90 e))
     (λ e.
@@ -51,7 +51,7 @@ which_opener k h =
     (or_cases (eqb k 0x90) (among 0x9D 0x9F k) h)
 
 -- what holds of both forms of each opener holds of every opener
-pub each_opener : (P : List ℕ → Type 0) → P (0x90 ∷ []) → P (0x9D ∷ []) → P (0x9E ∷ []) → P (0x9F ∷ []) → P (0x1B ∷ 0x50 ∷ []) → P (0x1B ∷ 0x5D ∷ []) → P (0x1B ∷ 0x5E ∷ []) → P (0x1B ∷ 0x5F ∷ []) → (k : ℕ) (c : List ℕ) → isOpener k ≡ true → Spells k c → P c
+pub each_opener : (P : List ℕ → Type 0) → P (0x90 ∷ []) → P (0x9D ∷ []) → P (0x9E ∷ []) → P (0x9F ∷ []) → P (0x1B ∷ 0x50 ∷ []) → P (0x1B ∷ 0x5D ∷ []) → P (0x1B ∷ 0x5E ∷ []) → P (0x1B ∷ 0x5F ∷ []) → (k : ℕ) (c : List ℕ) → is_opener k ≡ true → Spells k c → P c
 each_opener P p q r s p' q' r' s' k c o sp =
     ⊎_elim (one 0x90 p p') (⊎_elim (one 0x9D q q') (⊎_elim (one 0x9E r r') (one 0x9F s s'))) (which_opener k o)
   where
@@ -62,7 +62,7 @@ each_opener P p q r s p' q' r' s' k c o sp =
     one : (n : ℕ) → P (n ∷ []) → P (0x1B ∷ (n - 64) ∷ []) → k ≡ n → P c
     one n x y e = spelled n x y (subst (λ (j : ℕ). Spells j c) e sp)
 
-pub opener_leads : (k : ℕ) (c : List ℕ) → isOpener k ≡ true → Spells k c → standing_after rest c ≡ in_string
+pub opener_leads : (k : ℕ) (c : List ℕ) → is_opener k ≡ true → Spells k c → standing_after rest c ≡ in_string
 unfolding at_rest
 opener_leads = each_opener (λ (c : List ℕ). standing_after rest c ≡ in_string) refl refl refl refl refl refl refl refl
 
@@ -98,10 +98,10 @@ sos_body escaped (b ∷ bs) f h =
     (then.0, ap (λ (o : Outcome). standing_after o.standing bs) one ∙ then.1, ap (λ (o : Outcome). o.performs ++ performed o.standing bs) one ∙ then.2)
 
 -- parameters
-pub parameters_lead : (n : Parameters) (ps : List ℕ) → AllOf isParameter ps → (m : Parameters) × (standing_after (in_parameters n) ps ≡ in_parameters m)
+pub parameters_lead : (n : Parameters) (ps : List ℕ) → AllOf is_parameter ps → (m : Parameters) × (standing_after (in_parameters n) ps ≡ in_parameters m)
 parameters_lead n [] a = (n, refl)
 parameters_lead n (b ∷ ps) a =
-    let on : (step (in_parameters n) b).standing ≡ in_parameters (with_byte n b) = ap (λ (o : Outcome). o.standing) (cond-true (isParameter b) _ _ a.0) in
+    let on : (step (in_parameters n) b).standing ≡ in_parameters (with_byte n b) = ap (λ (o : Outcome). o.standing) (cond-true (is_parameter b) _ _ a.0) in
     let then = parameters_lead (with_byte n b) ps a.1 in
     (then.0, ap (λ (q : Standing). standing_after q ps) on ∙ then.1)
 
@@ -110,17 +110,17 @@ pub data After (is : List ℕ) (s : Standing) : Type 0 where
   none : (n : Parameters) → is ≡ [] → s ≡ in_parameters n → After is s
   some : (n : Parameters) → s ≡ in_intermediates n → After is s
 
-pub first_between : (n : Parameters) (b : ℕ) → isIntermediate b ≡ true → step (in_parameters n) b ≡ to (in_intermediates (cond (eqb b 0x20) n None))
+pub first_between : (n : Parameters) (b : ℕ) → is_intermediate b ≡ true → step (in_parameters n) b ≡ to (in_intermediates (cond (eqb b 0x20) n None))
 first_between n b h =
-    let unfit : isParameter b ≡ false = grind (arith, nat_tests) in
-    cond-false (isParameter b) _ _ unfit ∙ cond-true (isIntermediate b) _ _ h
+    let unfit : is_parameter b ≡ false = grind (arith, nat_tests) in
+    cond-false (is_parameter b) _ _ unfit ∙ cond-true (is_intermediate b) _ _ h
 
-intermediates_lead : (n : Parameters) (is : List ℕ) → AllOf isIntermediate is → (m : Parameters) × (standing_after (in_intermediates n) is ≡ in_intermediates m)
+intermediates_lead : (n : Parameters) (is : List ℕ) → AllOf is_intermediate is → (m : Parameters) × (standing_after (in_intermediates n) is ≡ in_intermediates m)
 intermediates_lead n [] a = (n, refl)
 intermediates_lead n (b ∷ is) a =
-    (None, ap (λ (o : Outcome). standing_after o.standing is) (cond-true (isIntermediate b) _ _ a.0) ∙ stays isIntermediate (in_intermediates None) more_between is a.1)
+    (None, ap (λ (o : Outcome). standing_after o.standing is) (cond-true (is_intermediate b) _ _ a.0) ∙ stays is_intermediate (in_intermediates None) more_between is a.1)
 
-after_between : (n : Parameters) (is : List ℕ) → AllOf isIntermediate is → After is (standing_after (in_parameters n) is)
+after_between : (n : Parameters) (is : List ℕ) → AllOf is_intermediate is → After is (standing_after (in_parameters n) is)
 after_between n [] a = none n refl refl
 after_between n (b ∷ is) a =
     let m = intermediates_lead (cond (eqb b 0x20) n None) is a.1 in
@@ -130,14 +130,14 @@ after_between n (b ∷ is) a =
 pub standing_three : (s : Standing) (a b c : List ℕ) → standing_after s (a ++ (b ++ c)) ≡ standing_after (standing_after (standing_after s a) b) c
 standing_three s a b c = standing_parts s a (b ++ c) ∙ standing_parts (standing_after s a) b c
 
-pub sequence_leads : (c ps is : List ℕ) → Spells 0x9B c → AllOf isParameter ps → AllOf isIntermediate is → After is (standing_after rest (c ++ (ps ++ is)))
+pub sequence_leads : (c ps is : List ℕ) → Spells 0x9B c → AllOf is_parameter ps → AllOf is_intermediate is → After is (standing_after rest (c ++ (ps ++ is)))
 sequence_leads c ps is s p i =
     let m = parameters_lead (Some []) ps p in
     subst (After is) (sym (standing_three rest c ps is ∙ ap (λ (q : Standing). standing_after (standing_after q ps) is) (csi_leads c s) ∙ ap (λ (q : Standing). standing_after q is) m.1)) (after_between m.0 is i)
 
 -- an escape with its intermediates
-pub escape_leads : (is : List ℕ) → AllOf isIntermediate is → (between : Bool) × (standing_after rest (0x1B ∷ is) ≡ escape between)
+pub escape_leads : (is : List ℕ) → AllOf is_intermediate is → (between : Bool) × (standing_after rest (0x1B ∷ is) ≡ escape between)
 unfolding at_rest
 escape_leads [] a = (false, refl)
 escape_leads (b ∷ is) a =
-    (true, ap (λ (o : Outcome). standing_after o.standing is) (cond-true (isIntermediate b) _ _ a.0) ∙ stays isIntermediate (escape true) escape_between is a.1)
+    (true, ap (λ (o : Outcome). standing_after o.standing is) (cond-true (is_intermediate b) _ _ a.0) ∙ stays is_intermediate (escape true) escape_between is a.1)

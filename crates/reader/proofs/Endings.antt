@@ -4,11 +4,11 @@ use Rattle.std.proofs.lemmas.Bool.{cond-true, cond-false, cond_both, eqb-true, a
 use Rattle.std.proofs.lemmas.Bool.Decides.{nat_tests}
 use Rattle.reader.specs.declared.item.Kind.{Kind}
 use Rattle.reader.specs.declared.item.Kind.TheVariants.{Text, Control, Escape, Sequence, String, Broken, Rest}
-use Rattle.reader.specs.Bytes.{AllOf, among, isGraphic, isBody, isOpener, isIntermediate, isParameter, endsEscape, endsSequence}
+use Rattle.reader.specs.Bytes.{AllOf, among, is_graphic, is_body, is_opener, is_intermediate, is_parameter, ends_escape, ends_sequence}
 use Rattle.reader.specs.Functions.{Parameters, reset}
 use Rattle.reader.specs.Steps.{Standing, Outcome, to, ends, at_rest, sequence_final, step, standing_after, performed, rest, escape, in_string, in_sos, is_at_rest}
 use Rattle.reader.specs.Items as item
-use Rattle.reader.specs.Items.{Spells, begins, isBeginning, is_lone, Free, Sequenced, Enclosed, Begun, Cuts, Awaiting, Form}
+use Rattle.reader.specs.Items.{Spells, begins, is_beginning, is_lone, Free, Sequenced, Enclosed, Begun, Cuts, Awaiting, Form}
 use Rattle.reader.specs.Performs.{is_rest}
 use Rattle.reader.proofs.Parts.{standing_parts}
 use Rattle.reader.proofs.Agree.{stays, rest_graphic, escape_between, string_body, rest_lone, sos_leads, opener_leads, string_ends, sos_ends, sos_body, After, none, some, sequence_leads, escape_leads}
@@ -33,14 +33,14 @@ final_rests : (n : Parameters) (space : Bool) (f : ℕ) → (sequence_final n sp
 final_rests None space f = refl
 final_rests (Some ps) space f = refl
 
-sequence_ends : (is : List ℕ) (s : Standing) (f : ℕ) → After is s → endsSequence f ≡ true → (step s f).standing ≡ rest
+sequence_ends : (is : List ℕ) (s : Standing) (f : ℕ) → After is s → ends_sequence f ≡ true → (step s f).standing ≡ rest
 sequence_ends is s f (none n e w) h =
-    let unfit : isParameter f ≡ false = grind (arith, nat_tests) in
-    let noti : isIntermediate f ≡ false = grind (arith, nat_tests) in
-    ap (λ (q : Standing). (step q f).standing) w ∙ standing_in (cond-false (isParameter f) _ _ unfit ∙ cond-false (isIntermediate f) _ _ noti ∙ cond-true (endsSequence f) _ _ h) ∙ final_rests n false f
+    let unfit : is_parameter f ≡ false = grind (arith, nat_tests) in
+    let noti : is_intermediate f ≡ false = grind (arith, nat_tests) in
+    ap (λ (q : Standing). (step q f).standing) w ∙ standing_in (cond-false (is_parameter f) _ _ unfit ∙ cond-false (is_intermediate f) _ _ noti ∙ cond-true (ends_sequence f) _ _ h) ∙ final_rests n false f
 sequence_ends is s f (some n w) h =
-    let noti : isIntermediate f ≡ false = grind (arith, nat_tests) in
-    ap (λ (q : Standing). (step q f).standing) w ∙ standing_in (cond-false (isIntermediate f) _ _ noti ∙ cond-true (endsSequence f) _ _ h) ∙ final_rests n true f
+    let noti : is_intermediate f ≡ false = grind (arith, nat_tests) in
+    ap (λ (q : Standing). (step q f).standing) w ∙ standing_in (cond-false (is_intermediate f) _ _ noti ∙ cond-true (ends_sequence f) _ _ h) ∙ final_rests n true f
 
 sequence_item : (x : List ℕ) → Sequenced x → standing_after rest x ≡ rest
 sequence_item x f =
@@ -50,34 +50,34 @@ sequence_item x f =
     ∙ sequence_ends f.between (standing_after rest front) f.final (sequence_leads f.csi f.parameters f.between f.opens f.parameter f.intermediate) f.ends
 
 -- a final byte ends an escape: one that stands for a control of one byte, RIS or nothing
-escape_ends : (f : ℕ) → endsEscape f ≡ true → (step (escape true) f).standing ≡ rest
+escape_ends : (f : ℕ) → ends_escape f ≡ true → (step (escape true) f).standing ≡ rest
 escape_ends f h =
-    let noti : isIntermediate f ≡ false = grind (arith, nat_tests) in
-    standing_in (cond-false (isIntermediate f) _ _ noti ∙ cond-true (endsEscape f) _ _ h)
+    let noti : is_intermediate f ≡ false = grind (arith, nat_tests) in
+    standing_in (cond-false (is_intermediate f) _ _ noti ∙ cond-true (ends_escape f) _ _ h)
 
-pub lone_above : (f : ℕ) → among 0x40 0x5F f ≡ true → isBeginning (f + 64) ≡ false → is_lone (f + 64) ≡ true
+pub lone_above : (f : ℕ) → among 0x40 0x5F f ≡ true → is_beginning (f + 64) ≡ false → is_lone (f + 64) ≡ true
 lone_above f h unfit = grind (arith, nat_tests)
 
-escape_ends_alone : (f : ℕ) → endsEscape f ≡ true → isBeginning (f + 64) ≡ false → (step (escape false) f).standing ≡ rest
+escape_ends_alone : (f : ℕ) → ends_escape f ≡ true → is_beginning (f + 64) ≡ false → (step (escape false) f).standing ≡ rest
 escape_ends_alone f h unfit =
-    let noti : isIntermediate f ≡ false = grind (arith, nat_tests) in
-    standing_in (cond-false (isIntermediate f) _ _ noti ∙ cond-true (endsEscape f) _ _ h)
+    let noti : is_intermediate f ≡ false = grind (arith, nat_tests) in
+    standing_in (cond-false (is_intermediate f) _ _ noti ∙ cond-true (ends_escape f) _ _ h)
     ∙ cond_both (among 0x40 0x5F f) (at_rest (f + 64)) (cond (eqb f 0x63) (ends reset) (to rest)) (λ (o : Outcome). o.standing ≡ rest)
     (λ e. rest_lone (f + 64) (lone_above f e unfit))
     (λ _. cond_both (eqb f 0x63) (ends reset) (to rest) (λ (o : Outcome). o.standing ≡ rest) (λ _. refl) (λ _. refl))
 
-escape_item : (is : List ℕ) (f : ℕ) → AllOf isIntermediate is → endsEscape f ≡ true → (is ≡ [] → isBeginning (f + 64) ≡ false) → standing_after rest (0x1B ∷ (is ++ f ∷ [])) ≡ rest
+escape_item : (is : List ℕ) (f : ℕ) → AllOf is_intermediate is → ends_escape f ≡ true → (is ≡ [] → is_beginning (f + 64) ≡ false) → standing_after rest (0x1B ∷ (is ++ f ∷ [])) ≡ rest
 unfolding at_rest
 escape_item [] f a h alone = escape_ends_alone f h (alone refl)
 escape_item (b ∷ is) f a h alone =
-    ap (λ (o : Outcome). standing_after o.standing (is ++ f ∷ [])) (cond-true (isIntermediate b) _ _ a.0)
+    ap (λ (o : Outcome). standing_after o.standing (is ++ f ∷ [])) (cond-true (is_intermediate b) _ _ a.0)
     ∙ standing_parts (escape true) is (f ∷ [])
-    ∙ ap (λ (q : Standing). standing_after q (f ∷ [])) (stays isIntermediate (escape true) escape_between is a.1)
+    ∙ ap (λ (q : Standing). standing_after q (f ∷ [])) (stays is_intermediate (escape true) escape_between is a.1)
     ∙ escape_ends f h
 
 -- a string's body, and its end
-pub string_within : (k : ℕ) (c body : List ℕ) → isOpener k ≡ true → Spells k c → AllOf isBody body → standing_after rest (c ++ body) ≡ in_string
-string_within k c body o s a = standing_parts rest c body ∙ ap (λ (q : Standing). standing_after q body) (opener_leads k c o s) ∙ stays isBody in_string string_body body a
+pub string_within : (k : ℕ) (c body : List ℕ) → is_opener k ≡ true → Spells k c → AllOf is_body body → standing_after rest (c ++ body) ≡ in_string
+string_within k c body o s a = standing_parts rest c body ∙ ap (λ (q : Standing). standing_after q body) (opener_leads k c o s) ∙ stays is_body in_string string_body body a
 
 pub sos_within : (c body : List ℕ) → Spells 0x98 c → Free body → (e : Bool) × (standing_after rest (c ++ body) ≡ in_sos e)
 sos_within c body s f =
@@ -88,8 +88,8 @@ enclosed : (opening : ℕ → Bool) (Within : List ℕ → Type 0) (x : List ℕ
 enclosed opening Within x f s in_Body ended =
     ap (standing_after rest) (f.spelled ∙ sym (append_assoc f.opener f.body f.st)) ∙ standing_parts rest (f.opener ++ f.body) f.st ∙ ap (λ (q : Standing). standing_after q f.st) in_Body ∙ ended
 
-string_item : (x : List ℕ) → Enclosed isOpener (AllOf isBody) x → standing_after rest x ≡ rest
-string_item x f = enclosed isOpener (AllOf isBody) x f in_string (string_within f.by f.opener f.body f.known f.opens f.within) (string_ends f.st f.ends)
+string_item : (x : List ℕ) → Enclosed is_opener (AllOf is_body) x → standing_after rest x ≡ rest
+string_item x f = enclosed is_opener (AllOf is_body) x f in_string (string_within f.by f.opener f.body f.known f.opens f.within) (string_ends f.st f.ends)
 
 pub opens_sos : (x : List ℕ) (f : Enclosed (λ k. eqb k 0x98) Free x) → Spells 0x98 f.opener
 opens_sos x f = subst (λ (k : ℕ). Spells k f.opener) (eqb-true f.by 0x98 f.known) f.opens
@@ -100,13 +100,13 @@ sos_item x f =
     enclosed (λ k. eqb k 0x98) Free x f (in_sos inside.0) inside.1 (sos_ends inside.0 f.st f.ends)
 
 -- what cuts an item is read as at rest
-sequence_cut : (is : List ℕ) (s : Standing) (b : ℕ) → After is s → isIntermediate b ≡ false → endsSequence b ≡ false → (is ≡ [] → isParameter b ≡ false) → step s b ≡ step rest b
+sequence_cut : (is : List ℕ) (s : Standing) (b : ℕ) → After is s → is_intermediate b ≡ false → ends_sequence b ≡ false → (is ≡ [] → is_parameter b ≡ false) → step s b ≡ step rest b
 sequence_cut is s b (none n e w) i f q =
-    ap (λ (z : Standing). step z b) w ∙ cond-false (isParameter b) _ _ (q e) ∙ cond-false (isIntermediate b) _ _ i ∙ cond-false (endsSequence b) _ _ f
-sequence_cut is s b (some n w) i f q = ap (λ (z : Standing). step z b) w ∙ cond-false (isIntermediate b) _ _ i ∙ cond-false (endsSequence b) _ _ f
+    ap (λ (z : Standing). step z b) w ∙ cond-false (is_parameter b) _ _ (q e) ∙ cond-false (is_intermediate b) _ _ i ∙ cond-false (ends_sequence b) _ _ f
+sequence_cut is s b (some n w) i f q = ap (λ (z : Standing). step z b) w ∙ cond-false (is_intermediate b) _ _ i ∙ cond-false (ends_sequence b) _ _ f
 
-escape_cut : (between : Bool) (b : ℕ) → isIntermediate b ≡ false → endsEscape b ≡ false → step (escape between) b ≡ step rest b
-escape_cut between b i f = cond-false (isIntermediate b) _ _ i ∙ cond-false (endsEscape b) _ _ f
+escape_cut : (between : Bool) (b : ℕ) → is_intermediate b ≡ false → ends_escape b ≡ false → step (escape between) b ≡ step rest b
+escape_cut between b i f = cond-false (is_intermediate b) _ _ i ∙ cond-false (ends_escape b) _ _ f
 
 -- an SOS string that SOS cuts is in the same standing as one that it opens
 again_eight : (escaped : Bool) (bs : List ℕ) → LikeRest (in_sos escaped) (0x98 ∷ bs)
@@ -143,14 +143,14 @@ broken_item x r (item.sequence c ps is s p i e) (b, bs, at, noti, unfit, q) =
     let front = c ++ (ps ++ is) in
     cut_after x (standing_after rest front) r b bs (ap (standing_after rest) e) at (sequence_cut is (standing_after rest front) b (sequence_leads c ps is s p i) noti unfit q)
 broken_item x r (item.string k c body o s a e) (b, bs, at, unfit, _, _) =
-    cut_after x in_string r b bs (ap (standing_after rest) e ∙ string_within k c body o s a) at (cond-false (isBody b) _ _ unfit)
+    cut_after x in_string r b bs (ap (standing_after rest) e ∙ string_within k c body o s a) at (cond-false (is_body b) _ _ unfit)
 broken_item x r (item.sos c body s f e) h =
     let led = sos_within c body s f in
     subst (λ (q : Standing). LikeRest q r) (sym (ap (standing_after rest) e ∙ led.1)) (sos_again led.0 r h)
 
 -- behind every item but an unfinished one, the bytes are read as from rest
 pub behind_item : (k : Kind) (x r : List ℕ) → Form k x r → is_rest k ≡ false → LikeRest (standing_after rest x) r
-behind_item Text x r f h = at_rest_like _ r (stays isGraphic rest rest_graphic x f.1)
+behind_item Text x r f h = at_rest_like _ r (stays is_graphic rest rest_graphic x f.1)
 behind_item Control x r f h = at_rest_like _ r (ap (standing_after rest) f.1 ∙ rest_lone f.0 f.2)
 behind_item Escape x r f h = at_rest_like _ r (ap (standing_after rest) f.spelled ∙ escape_item f.between f.final f.intermediate f.ends f.alone)
 behind_item Sequence x r f h = at_rest_like _ r (sequence_item x f)

@@ -4,9 +4,9 @@ use Rattle.std.proofs.lemmas.Bool.{cond-true, cond-false, or_from, or_left, and_
 use Rattle.std.proofs.lemmas.Bool.Decides.{nat_tests}
 use Rattle.reader.specs.declared.item.Kind.{Kind}
 use Rattle.reader.specs.declared.item.Kind.TheVariants.{Text, Control, Escape, Sequence, String, Broken, Rest}
-use Rattle.reader.specs.Bytes.{isGraphic, isOpener, isBody, isIntermediate, isParameter, endsEscape, endsSequence, AllOf, Stops}
-use Rattle.reader.specs.Items.{Spells, begins, isBeginning, is_lone, Free}
-use Rattle.reader.specs.Walks.{opensMore}
+use Rattle.reader.specs.Bytes.{is_graphic, is_opener, is_body, is_intermediate, is_parameter, ends_escape, ends_sequence, AllOf, Stops}
+use Rattle.reader.specs.Items.{Spells, begins, is_beginning, is_lone, Free}
+use Rattle.reader.specs.Walks.{opens_more}
 use Rattle.reader.proofs.Forms.{control_one}
 
 -- what is left behind the bytes of a class
@@ -39,16 +39,16 @@ scanned (b ∷ bs) = cond (begins 0x9C (b ∷ bs)) (String, behind b bs) (cond (
 
 -- behind a control that begins an item of several bytes, and behind an ESC
 opened : ℕ → List ℕ → Kind × List ℕ
-opened k m = cond (eqb k 0x9B) (ended endsSequence Sequence (skip isIntermediate (skip isParameter m))) (cond (eqb k 0x98) (scanned m) (closed (skip isBody m)))
+opened k m = cond (eqb k 0x9B) (ended ends_sequence Sequence (skip is_intermediate (skip is_parameter m))) (cond (eqb k 0x98) (scanned m) (closed (skip is_body m)))
 
 escaped : List ℕ → Kind × List ℕ
 escaped [] = (Rest, [])
-escaped (b ∷ m) = cond (opensMore b) (opened (b + 64) m) (ended endsEscape Escape (skip isIntermediate (b ∷ m)))
+escaped (b ∷ m) = cond (opens_more b) (opened (b + 64) m) (ended ends_escape Escape (skip is_intermediate (b ∷ m)))
 
 -- the first item; where there are no bytes, a text, since no text is empty
 pub first : List ℕ → Kind × List ℕ
 first [] = (Text, [])
-first (b ∷ m) = cond (isGraphic b) (Text, skip isGraphic m) (cond (is_lone b) (Control, m) (cond (eqb b 0x1B) (escaped m) (opened b m)))
+first (b ∷ m) = cond (is_graphic b) (Text, skip is_graphic m) (cond (is_lone b) (Control, m) (cond (eqb b 0x1B) (escaped m) (opened b m)))
 
 pub first_none : first [] ≡ (Text, [])
 unfolding first
@@ -84,25 +84,25 @@ unfolding ended
 ended_rest P k = refl
 
 -- an ESC, where the byte behind it opens neither a sequence nor a string
-first_escape : (m : List ℕ) → Stops opensMore m → first (0x1B ∷ m) ≡ ended endsEscape Escape (skip isIntermediate m)
+first_escape : (m : List ℕ) → Stops opens_more m → first (0x1B ∷ m) ≡ ended ends_escape Escape (skip is_intermediate m)
 unfolding first escaped skip ended
 first_escape [] s = refl
-first_escape (b ∷ m) s = cond-false (opensMore b) _ _ s
+first_escape (b ∷ m) s = cond-false (opens_more b) _ _ s
 
 -- a control that begins an item, in either form
-first_opened : (k : ℕ) (c m : List ℕ) → isBeginning k ≡ true → Spells k c → first (c ++ m) ≡ opened k m
+first_opened : (k : ℕ) (c m : List ℕ) → is_beginning k ≡ true → Spells k c → first (c ++ m) ≡ opened k m
 unfolding first escaped
 first_opened k c m h (inl e) =
-    let g : isGraphic k ≡ false = grind (arith, nat_tests) in
+    let g : is_graphic k ≡ false = grind (arith, nat_tests) in
     let l : is_lone k ≡ false = grind (arith, nat_tests) in
     let n : eqb k 0x1B ≡ false = grind (arith, nat_tests) in
-    ap (λ (z : List ℕ). first (z ++ m)) e ∙ cond-false (isGraphic k) _ _ g ∙ cond-false (is_lone k) _ _ l ∙ cond-false (eqb k 0x1B) _ _ n
+    ap (λ (z : List ℕ). first (z ++ m)) e ∙ cond-false (is_graphic k) _ _ g ∙ cond-false (is_lone k) _ _ l ∙ cond-false (eqb k 0x1B) _ _ n
 first_opened k c m h (inr e) =
     let low : 64 < k = grind (arith, nat_tests) in
     let same : (k - 64) + 64 ≡ k = omega arith in
-    ap (λ (z : List ℕ). first (z ++ m)) e ∙ cond-true (opensMore (k - 64)) _ _ (ap isBeginning same ∙ h) ∙ ap (λ (j : ℕ). opened j m) same
+    ap (λ (z : List ℕ). first (z ++ m)) e ∙ cond-true (opens_more (k - 64)) _ _ (ap is_beginning same ∙ h) ∙ ap (λ (j : ℕ). opened j m) same
 
-first_csi : (c m : List ℕ) → Spells 0x9B c → first (c ++ m) ≡ ended endsSequence Sequence (skip isIntermediate (skip isParameter m))
+first_csi : (c m : List ℕ) → Spells 0x9B c → first (c ++ m) ≡ ended ends_sequence Sequence (skip is_intermediate (skip is_parameter m))
 unfolding opened
 first_csi c m s = first_opened 0x9B c m refl s
 
@@ -110,30 +110,30 @@ first_sos : (c m : List ℕ) → Spells 0x98 c → first (c ++ m) ≡ scanned m
 unfolding opened
 first_sos c m s = first_opened 0x98 c m refl s
 
-first_string : (k : ℕ) (c m : List ℕ) → isOpener k ≡ true → Spells k c → first (c ++ m) ≡ closed (skip isBody m)
+first_string : (k : ℕ) (c m : List ℕ) → is_opener k ≡ true → Spells k c → first (c ++ m) ≡ closed (skip is_body m)
 unfolding opened
 first_string k c m o s =
     let csi : eqb k 0x9B ≡ false = grind (arith, nat_tests) in
     let sos : eqb k 0x98 ≡ false = grind (arith, nat_tests) in
-    first_opened k c m (or_left (isOpener k) _ o) s ∙ cond-false (eqb k 0x9B) _ _ csi ∙ cond-false (eqb k 0x98) _ _ sos
+    first_opened k c m (or_left (is_opener k) _ o) s ∙ cond-false (eqb k 0x9B) _ _ csi ∙ cond-false (eqb k 0x98) _ _ sos
 
 -- an intermediate stops the others
-intermediate_opens_none : (b : ℕ) → isIntermediate b ≡ true → opensMore b ≡ false
+intermediate_opens_none : (b : ℕ) → is_intermediate b ≡ true → opens_more b ≡ false
 intermediate_opens_none b h = grind (arith, nat_tests)
 
-intermediate_no_parameter : (b : ℕ) → isIntermediate b ≡ true → isParameter b ≡ false
+intermediate_no_parameter : (b : ℕ) → is_intermediate b ≡ true → is_parameter b ≡ false
 intermediate_no_parameter b h = grind (arith, nat_tests)
 
 -- an escape and a sequence, from the bytes behind their intermediates
-module _ (is t : List ℕ) (i : AllOf isIntermediate is) (s : Stops isIntermediate t) where
-  pub escape_first : (is ≡ [] → Stops opensMore t) → first (0x1B ∷ (is ++ t)) ≡ ended endsEscape Escape t
-  escape_first lone = first_escape (is ++ t) (stops_run opensMore isIntermediate intermediate_opens_none is t i lone) ∙ ap (ended endsEscape Escape) (skip_run isIntermediate is t i s)
+module _ (is t : List ℕ) (i : AllOf is_intermediate is) (s : Stops is_intermediate t) where
+  pub escape_first : (is ≡ [] → Stops opens_more t) → first (0x1B ∷ (is ++ t)) ≡ ended ends_escape Escape t
+  escape_first lone = first_escape (is ++ t) (stops_run opens_more is_intermediate intermediate_opens_none is t i lone) ∙ ap (ended ends_escape Escape) (skip_run is_intermediate is t i s)
 
-  pub sequence_first : (c ps : List ℕ) → Spells 0x9B c → AllOf isParameter ps → (is ≡ [] → Stops isParameter t) → first (c ++ (ps ++ (is ++ t))) ≡ ended endsSequence Sequence t
+  pub sequence_first : (c ps : List ℕ) → Spells 0x9B c → AllOf is_parameter ps → (is ≡ [] → Stops is_parameter t) → first (c ++ (ps ++ (is ++ t))) ≡ ended ends_sequence Sequence t
   sequence_first c ps o p lone =
       first_csi c (ps ++ (is ++ t)) o
-      ∙ ap (λ (z : List ℕ). ended endsSequence Sequence (skip isIntermediate z)) (skip_run isParameter ps (is ++ t) p (stops_run isParameter isIntermediate intermediate_no_parameter is t i lone))
-      ∙ ap (ended endsSequence Sequence) (skip_run isIntermediate is t i s)
+      ∙ ap (λ (z : List ℕ). ended ends_sequence Sequence (skip is_intermediate z)) (skip_run is_parameter ps (is ++ t) p (stops_run is_parameter is_intermediate intermediate_no_parameter is t i lone))
+      ∙ ap (ended ends_sequence Sequence) (skip_run is_intermediate is t i s)
 
 -- ST in either form, for what answers a string wherever ST begins
 found : (F : List ℕ → Kind × List ℕ) → ((b : ℕ) (bs : List ℕ) → begins 0x9C (b ∷ bs) ≡ true → F (b ∷ bs) ≡ (String, behind b bs)) → (st r : List ℕ) → Spells 0x9C st → F (st ++ r) ≡ (String, r)
@@ -164,8 +164,8 @@ control_stops k P one two c r (inl e) = subst (λ (z : List ℕ). Stops P (z ++ 
 control_stops k P one two c r (inr e) = subst (λ (z : List ℕ). Stops P (z ++ r)) (sym e) two
 
 -- a command string, from the bytes behind its body
-pub string_first : (k : ℕ) (c body t : List ℕ) → isOpener k ≡ true → Spells k c → AllOf isBody body → Stops isBody t → first (c ++ (body ++ t)) ≡ closed t
-string_first k c body t o s a h = first_string k c (body ++ t) o s ∙ ap closed (skip_run isBody body t a h)
+pub string_first : (k : ℕ) (c body t : List ℕ) → is_opener k ≡ true → Spells k c → AllOf is_body body → Stops is_body t → first (c ++ (body ++ t)) ≡ closed t
+string_first k c body t o s a h = first_string k c (body ++ t) o s ∙ ap closed (skip_run is_body body t a h)
 
 -- with what follows, an ESC at the end of an SOS string's body makes neither ST nor SOS
 abbrev pub Apart : List ℕ → Type 0
@@ -207,13 +207,13 @@ pub sos_first : (c body t : List ℕ) → Spells 0x98 c → Free body → Apart 
 sos_first c body t s f a = first_sos c (body ++ t) s ∙ scanned_body body t f a
 
 -- a text and a control are told
-pub text_first : (x r : List ℕ) → 0 < length x → AllOf isGraphic x → Stops isGraphic r → first (x ++ r) ≡ (Text, r)
+pub text_first : (x r : List ℕ) → 0 < length x → AllOf is_graphic x → Stops is_graphic r → first (x ++ r) ≡ (Text, r)
 unfolding first
 text_first [] r h a s = absurd (not-suc-le-zero h)
-text_first (b ∷ x) r h a s = cond-true (isGraphic b) _ _ a.0 ∙ ap (λ (z : List ℕ). (Text, z)) (skip_run isGraphic x r a.1 s)
+text_first (b ∷ x) r h a s = cond-true (is_graphic b) _ _ a.0 ∙ ap (λ (z : List ℕ). (Text, z)) (skip_run is_graphic x r a.1 s)
 
 pub control_first : (b : ℕ) (r : List ℕ) → is_lone b ≡ true → first (b ∷ r) ≡ (Control, r)
 unfolding first
 control_first b r h =
-    let g : isGraphic b ≡ false = grind (arith, nat_tests) in
-    cond-false (isGraphic b) _ _ g ∙ cond-true (is_lone b) _ _ h
+    let g : is_graphic b ≡ false = grind (arith, nat_tests) in
+    cond-false (is_graphic b) _ _ g ∙ cond-true (is_lone b) _ _ h

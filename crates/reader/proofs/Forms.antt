@@ -4,10 +4,10 @@ use Rattle.std.proofs.lemmas.Bool.{eq-eqb, or_left, or_right, and_from, or_parts
 use Rattle.std.proofs.lemmas.Bool.Decides.{nat_tests}
 use Rattle.reader.specs.declared.item.Kind.{Kind}
 use Rattle.reader.specs.declared.item.Kind.TheVariants.{Text, Control, Escape, Sequence, String, Broken, Rest}
-use Rattle.reader.specs.Bytes.{isGraphic, isOpener, isBody, isIntermediate, isParameter, endsEscape, endsSequence, AllOf, Stops}
+use Rattle.reader.specs.Bytes.{is_graphic, is_opener, is_body, is_intermediate, is_parameter, ends_escape, ends_sequence, AllOf, Stops}
 use Rattle.reader.specs.Items as item
 use Rattle.reader.specs.Items.{Spells, begins, Free, is_lone, Form}
-use Rattle.reader.specs.Walks.{Leaves, Leads, Opens, opensMore}
+use Rattle.reader.specs.Walks.{Leaves, Leads, Opens, opens_more}
 
 pub all_more : (P : ℕ → Bool) (bs : List ℕ) (n : ℕ) → n < length bs → AllOf P (take n bs) → P (get_or bs n 0) ≡ true → AllOf P (take (n + 1) bs)
 all_more P bs n h a e = rw (add-one, take-suc bs n 0) (all_snoc (take n bs) a)
@@ -40,24 +40,24 @@ module _ (l ps m is t : List ℕ) (front : ps ++ m ≡ l) (back : is ++ t ≡ m)
   joined : (ps ++ is) ++ t ≡ l
   joined = append_assoc ps is t ∙ ap (λ (z : List ℕ). ps ++ z) back ∙ front
 
-  module _ (a : AllOf isParameter ps) (i : AllOf isIntermediate is) where
+  module _ (a : AllOf is_parameter ps) (i : AllOf is_intermediate is) where
     pub sequence_rest : length t < 1 → Leaves (Spells 0x9B) Rest l t
     sequence_rest h = (ps ++ is, joined, λ c s. (empty t h, inl (item.sequence c ps is s a i refl)))
 
-    pub sequence_whole : (b : ℕ) (bs : List ℕ) → b ∷ bs ≡ t → endsSequence b ≡ true → Leaves (Spells 0x9B) Sequence l bs
+    pub sequence_whole : (b : ℕ) (bs : List ℕ) → b ∷ bs ≡ t → ends_sequence b ≡ true → Leaves (Spells 0x9B) Sequence l bs
     sequence_whole b bs e f = (
       ps ++ (is ++ b ∷ []),
       append_assoc ps (is ++ b ∷ []) bs ∙ ap (λ (z : List ℕ). ps ++ z) (append_assoc is (b ∷ []) bs ∙ ap (λ (z : List ℕ). is ++ z) e ∙ back) ∙ front,
       λ c s. record { csi = c; parameters = ps; between = is; final = b; spelled = refl; opens = s; parameter = a; intermediate = i; ends = f },
     )
 
-    pub sequence_broken : Stops isParameter m → Stops isIntermediate t → (b : ℕ) (bs : List ℕ) → b ∷ bs ≡ t → endsSequence b ≡ false → Leaves (Spells 0x9B) Broken l t
+    pub sequence_broken : Stops is_parameter m → Stops is_intermediate t → (b : ℕ) (bs : List ℕ) → b ∷ bs ≡ t → ends_sequence b ≡ false → Leaves (Spells 0x9B) Broken l t
     sequence_broken sp si b bs e f = (
       ps ++ is,
       joined,
       λ c s. (
         item.sequence c ps is s a i refl,
-        (b, bs, sym e, subst (Stops isIntermediate) (sym e) si, f, λ none. subst (Stops isParameter) (sym (e ∙ ap (λ (z : List ℕ). z ++ t) (sym none) ∙ back)) sp),
+        (b, bs, sym e, subst (Stops is_intermediate) (sym e) si, f, λ none. subst (Stops is_parameter) (sym (e ∙ ap (λ (z : List ℕ). z ++ t) (sym none) ∙ back)) sp),
       ),
     )
 
@@ -68,22 +68,22 @@ pattern_two (a ∷ []) h = absurd (omega arith)
 pattern_two (a ∷ b ∷ bs) h = ap (λ (l : List ℕ). a ∷ b ∷ l) (take_all _ bs (omega arith))
 
 -- the rest of an escape, l, is its intermediates and t
-module _ (l is t : List ℕ) (whole : is ++ t ≡ l) (i : AllOf isIntermediate is) where
+module _ (l is t : List ℕ) (whole : is ++ t ≡ l) (i : AllOf is_intermediate is) where
   esc : (c x : List ℕ) → c ≡ 0x1B ∷ [] → c ++ x ≡ 0x1B ∷ x
   esc c x e = ap (λ (z : List ℕ). z ++ x) e
 
   pub escape_rest : length t < 1 → Leaves (λ c. c ≡ 0x1B ∷ []) Rest l t
   escape_rest h = (is, whole, λ c s. (empty t h, inl (item.escape is i (esc c is s))))
 
-  pub escape_whole : Stops opensMore l → (b : ℕ) (bs : List ℕ) → b ∷ bs ≡ t → endsEscape b ≡ true → Leaves (λ c. c ≡ 0x1B ∷ []) Escape l bs
+  pub escape_whole : Stops opens_more l → (b : ℕ) (bs : List ℕ) → b ∷ bs ≡ t → ends_escape b ≡ true → Leaves (λ c. c ≡ 0x1B ∷ []) Escape l bs
   escape_whole lone b bs e f = (
     is ++ b ∷ [],
     append_assoc is (b ∷ []) bs ∙ ap (λ (z : List ℕ). is ++ z) e ∙ whole,
-    λ c s. record { between = is; final = b; spelled = esc c (is ++ b ∷ []) s; intermediate = i; ends = f; alone = λ none. subst (Stops opensMore) (sym (e ∙ ap (λ (z : List ℕ). z ++ t) (sym none) ∙ whole)) lone },
+    λ c s. record { between = is; final = b; spelled = esc c (is ++ b ∷ []) s; intermediate = i; ends = f; alone = λ none. subst (Stops opens_more) (sym (e ∙ ap (λ (z : List ℕ). z ++ t) (sym none) ∙ whole)) lone },
   )
 
-  pub escape_broken : Stops isIntermediate t → (b : ℕ) (bs : List ℕ) → b ∷ bs ≡ t → endsEscape b ≡ false → Leaves (λ c. c ≡ 0x1B ∷ []) Broken l t
-  escape_broken si b bs e f = (is, whole, λ c s. (item.escape is i (esc c is s), (b, bs, sym e, subst (Stops isIntermediate) (sym e) si, f)))
+  pub escape_broken : Stops is_intermediate t → (b : ℕ) (bs : List ℕ) → b ∷ bs ≡ t → ends_escape b ≡ false → Leaves (λ c. c ≡ 0x1B ∷ []) Broken l t
+  escape_broken si b bs e f = (is, whole, λ c s. (item.escape is i (esc c is s), (b, bs, sym e, subst (Stops is_intermediate) (sym e) si, f)))
 
 -- a control at the front, in one form or the other
 begins_one : (k : ℕ) (b : ℕ) (bs : List ℕ) → b ≡ k → begins k (b ∷ bs) ≡ true
@@ -100,7 +100,7 @@ control_two k l a b bs w e f = (
 )
 
 -- after the opener of a command string, l is the body and t
-module _ (l body t : List ℕ) (whole : body ++ t ≡ l) (a : AllOf isBody body) where
+module _ (l body t : List ℕ) (whole : body ++ t ≡ l) (a : AllOf is_body body) where
   pub string_rest : length t < 1 → Leaves Opens Rest l t
   string_rest h = (body, whole, λ c o. (empty t h, inl (item.string o.0 c body o.1 o.2 a refl)))
 
@@ -118,8 +118,8 @@ module _ (l body t : List ℕ) (whole : body ++ t ≡ l) (a : AllOf isBody body)
     λ c o. inl (record { by = o.0; opener = c; body = body; st = st; spelled = refl; known = o.1; opens = o.2; within = a; ends = s }),
   )
 
-  pub string_broken : Stops isBody t → begins 0x9C t ≡ false → (b : ℕ) (bs : List ℕ) → b ∷ bs ≡ t → (b ≡ 0x1B → 0 < length bs) → Leaves Opens Broken l t
-  string_broken sb st b bs e more = (body, whole, λ c o. (item.string o.0 c body o.1 o.2 a refl, (b, bs, sym e, subst (Stops isBody) (sym e) sb, st, more)))
+  pub string_broken : Stops is_body t → begins 0x9C t ≡ false → (b : ℕ) (bs : List ℕ) → b ∷ bs ≡ t → (b ≡ 0x1B → 0 < length bs) → Leaves Opens Broken l t
+  string_broken sb st b bs e more = (body, whole, λ c o. (item.string o.0 c body o.1 o.2 a refl, (b, bs, sym e, subst (Stops is_body) (sym e) sb, st, more)))
 
 pub single : (t : List ℕ) (k : ℕ) → 0 < length t → length t < 2 → get_or t 0 0 ≡ k → t ≡ k ∷ []
 single [] k h g e = absurd (not-suc-le-zero h)
@@ -187,18 +187,18 @@ pub front_two : (t : List ℕ) (j k : ℕ) → 1 < length t → get_or t 0 0 ≡
 front_two t j k h e f = (λ i. sym e i ∷ sym f i ∷ take (length t - 2) (drop 2 t)) ∙ pattern_two t h
 
 -- a text is not empty, since its first byte is graphic
-pub text_leads : (l x t : List ℕ) → x ++ t ≡ l → AllOf isGraphic x → Stops isGraphic t → 0 < length l → isGraphic (get_or l 0 0) ≡ true → Leads Text l t
-text_leads l [] t e a s h g = absurd (first_stops t (subst (λ (z : List ℕ). 0 < length z) (sym e) h) s (ap (λ (z : List ℕ). isGraphic (get_or z 0 0)) e ∙ g))
+pub text_leads : (l x t : List ℕ) → x ++ t ≡ l → AllOf is_graphic x → Stops is_graphic t → 0 < length l → is_graphic (get_or l 0 0) ≡ true → Leads Text l t
+text_leads l [] t e a s h g = absurd (first_stops t (subst (λ (z : List ℕ). 0 < length z) (sym e) h) s (ap (λ (z : List ℕ). is_graphic (get_or z 0 0)) e ∙ g))
   where
-    first_stops : (t : List ℕ) → 0 < length t → Stops isGraphic t → isGraphic (get_or t 0 0) ≡ true → ⊥
+    first_stops : (t : List ℕ) → 0 < length t → Stops is_graphic t → is_graphic (get_or t 0 0) ≡ true → ⊥
     first_stops [] h s g = absurd (not-suc-le-zero h)
-    first_stops (b ∷ bs) h s g = both_ways (isGraphic b) s g
+    first_stops (b ∷ bs) h s g = both_ways (is_graphic b) s g
 text_leads l (b ∷ x) t e a s h g = (b ∷ x, e, (omega arith, a, s))
 
 pub control_leads : (l : List ℕ) → 0 < length l → is_lone (get_or l 0 0) ≡ true → Leads Control l (take (length l - 1) (drop 1 l))
 control_leads l h g = (get_or l 0 0 ∷ [], pattern_one l h, (get_or l 0 0, refl, g))
 
-pub lone_rest : (b : ℕ) → b < 256 → (b ≡ 0x1B → ⊥) → (b ≡ 0x9B → ⊥) → (b ≡ 0x98 → ⊥) → isOpener b ≡ false → isGraphic b ≡ false → is_lone b ≡ true
+pub lone_rest : (b : ℕ) → b < 256 → (b ≡ 0x1B → ⊥) → (b ≡ 0x9B → ⊥) → (b ≡ 0x98 → ⊥) → is_opener b ≡ false → is_graphic b ≡ false → is_lone b ≡ true
 lone_rest b f e c s o g = grind (arith, nat_tests)
 
 pub escaped : (b : ℕ) → 0x1B ∷ b ∷ [] ≡ 0x1B ∷ ((b + 64) - 64) ∷ []

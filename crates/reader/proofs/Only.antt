@@ -5,10 +5,10 @@ use Rattle.std.proofs.lemmas.Bool.{eqb-true}
 use Rattle.std.proofs.lemmas.Bool.Decides.{nat_tests}
 use Rattle.reader.specs.declared.item.Kind.{Kind}
 use Rattle.reader.specs.declared.item.Kind.TheVariants.{Text, Control, Escape, Sequence, String, Broken, Rest}
-use Rattle.reader.specs.Bytes.{isOpener, isBody, isIntermediate, isParameter, endsEscape, endsSequence, AllOf}
+use Rattle.reader.specs.Bytes.{is_opener, is_body, is_intermediate, is_parameter, ends_escape, ends_sequence, AllOf}
 use Rattle.reader.specs.Items as item
 use Rattle.reader.specs.Items.{Spells, begins, Free, Begun, Cuts, Escaped, Sequenced, Enclosed, Awaiting, Form}
-use Rattle.reader.specs.Walks.{opensMore}
+use Rattle.reader.specs.Walks.{opens_more}
 use Rattle.reader.specs.Performs.{Cut, CutIsOnly}
 use Rattle.reader.proofs.First.{first, first_none, ended_fits, ended_broken, ended_rest, closed_whole, closed_broken, closed_rest, closed_esc, scanned_whole, scanned_broken, scanned_rest, text_first, control_first, escape_first, sequence_first, string_first, sos_first, sos_apart, control_stops}
 
@@ -23,25 +23,25 @@ three_parts x a b c r e = two_parts x a (b ++ c) r e ∙ ap (λ (z : List ℕ). 
 escaped_first : (x r : List ℕ) → Escaped x → first (x ++ r) ≡ (Escape, r)
 escaped_first x r f =
     let h = f.ends in
-    let s : isIntermediate f.final ≡ false = grind (arith, nat_tests) in
+    let s : is_intermediate f.final ≡ false = grind (arith, nat_tests) in
     three_parts x (0x1B ∷ []) f.between (f.final ∷ []) r f.spelled
     ∙ escape_first f.between (f.final ∷ r) f.intermediate s f.alone
-    ∙ ended_fits endsEscape Escape f.final r h
+    ∙ ended_fits ends_escape Escape f.final r h
 
 sequenced_first : (x r : List ℕ) → Sequenced x → first (x ++ r) ≡ (Sequence, r)
 sequenced_first x r f =
     let h = f.ends in
-    let s : isIntermediate f.final ≡ false = grind (arith, nat_tests) in
-    let p : isParameter f.final ≡ false = grind (arith, nat_tests) in
+    let s : is_intermediate f.final ≡ false = grind (arith, nat_tests) in
+    let p : is_parameter f.final ≡ false = grind (arith, nat_tests) in
     three_parts x f.csi f.parameters (f.between ++ f.final ∷ []) r f.spelled
     ∙ ap (λ (z : List ℕ). first (f.csi ++ (f.parameters ++ z))) (append_assoc f.between (f.final ∷ []) r)
     ∙ sequence_first f.between (f.final ∷ r) f.intermediate s f.csi f.parameters f.opens f.parameter (λ _. p)
-    ∙ ended_fits endsSequence Sequence f.final r h
+    ∙ ended_fits ends_sequence Sequence f.final r h
 
-string_whole_first : (x r : List ℕ) → Enclosed isOpener (AllOf isBody) x → first (x ++ r) ≡ (String, r)
+string_whole_first : (x r : List ℕ) → Enclosed is_opener (AllOf is_body) x → first (x ++ r) ≡ (String, r)
 string_whole_first x r f =
     three_parts x f.opener f.body f.st r f.spelled
-    ∙ string_first f.by f.opener f.body (f.st ++ r) f.known f.opens f.within (control_stops 0x9C isBody refl refl f.st r f.ends)
+    ∙ string_first f.by f.opener f.body (f.st ++ r) f.known f.opens f.within (control_stops 0x9C is_body refl refl f.st r f.ends)
     ∙ closed_whole f.st r f.ends
 
 sos_whole_first : (x r : List ℕ) → Enclosed (λ k. eqb k 0x98) Free x → first (x ++ r) ≡ (String, r)
@@ -54,12 +54,12 @@ sos_whole_first x r f =
 -- what has no end
 broken_first : (x r : List ℕ) (g : Begun x) → Cuts g r → first (x ++ r) ≡ (Broken, r)
 broken_first x r (item.escape is a e) (b, bs, w, i, f) =
-    let opens : opensMore b ≡ false = grind (arith, nat_tests) in
+    let opens : opens_more b ≡ false = grind (arith, nat_tests) in
     subst (λ (z : List ℕ). first (x ++ z) ≡ (Broken, z)) (sym w)
-    (ap (λ (z : List ℕ). first (z ++ b ∷ bs)) e ∙ escape_first is (b ∷ bs) a i (λ _. opens) ∙ ended_broken endsEscape Escape b bs f)
+    (ap (λ (z : List ℕ). first (z ++ b ∷ bs)) e ∙ escape_first is (b ∷ bs) a i (λ _. opens) ∙ ended_broken ends_escape Escape b bs f)
 broken_first x r (item.sequence c ps is s p a e) (b, bs, w, i, f, q) =
     subst (λ (z : List ℕ). first (x ++ z) ≡ (Broken, z)) (sym w)
-    (three_parts x c ps is (b ∷ bs) e ∙ sequence_first is (b ∷ bs) a i c ps s p q ∙ ended_broken endsSequence Sequence b bs f)
+    (three_parts x c ps is (b ∷ bs) e ∙ sequence_first is (b ∷ bs) a i c ps s p q ∙ ended_broken ends_sequence Sequence b bs f)
 broken_first x r (item.string k c body o s a e) (b, bs, w, n, st, more) =
     subst (λ (z : List ℕ). first (x ++ z) ≡ (Broken, z)) (sym w)
     (two_parts x c body (b ∷ bs) e ∙ string_first k c body (b ∷ bs) o s a n ∙ closed_broken b bs (ap (begins 0x9C) (sym w) ∙ st) more)
@@ -67,8 +67,8 @@ broken_first x r (item.sos c body s f e) h =
     two_parts x c body r e ∙ sos_first c body r s f (sos_apart r h).1 ∙ scanned_broken r h
 
 rest_first : (x : List ℕ) → Begun x ⊎ Awaiting x → first (x ++ []) ≡ (Rest, [])
-rest_first x (inl (item.escape is a e)) = ap (λ (z : List ℕ). first (z ++ [])) e ∙ escape_first is [] a tt (λ _. tt) ∙ ended_rest endsEscape Escape
-rest_first x (inl (item.sequence c ps is s p a e)) = three_parts x c ps is [] e ∙ sequence_first is [] a tt c ps s p (λ _. tt) ∙ ended_rest endsSequence Sequence
+rest_first x (inl (item.escape is a e)) = ap (λ (z : List ℕ). first (z ++ [])) e ∙ escape_first is [] a tt (λ _. tt) ∙ ended_rest ends_escape Escape
+rest_first x (inl (item.sequence c ps is s p a e)) = three_parts x c ps is [] e ∙ sequence_first is [] a tt c ps s p (λ _. tt) ∙ ended_rest ends_sequence Sequence
 rest_first x (inl (item.string k c body o s a e)) = two_parts x c body [] e ∙ string_first k c body [] o s a tt ∙ closed_rest
 rest_first x (inl (item.sos c body s f e)) = two_parts x c body [] e ∙ sos_first c body [] s f (tt, tt) ∙ scanned_rest
 rest_first x (inr f) = three_parts x f.opener f.body (0x1B ∷ []) [] f.spelled ∙ string_first f.by f.opener f.body (0x1B ∷ []) f.known f.opens f.within refl ∙ closed_esc

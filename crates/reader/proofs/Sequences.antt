@@ -2,7 +2,7 @@
 use Rattle.std.proofs.Common.{◌≡◌, ℕ, true, false, cond, eqb, List, [], ◌∷◌, ◌++◌, Some, None, refl, ap, ◌∙◌, inl, inr, arith}
 use Rattle.std.proofs.lemmas.Bool.{cond-true, cond-false}
 use Rattle.std.proofs.lemmas.Bool.Decides.{nat_tests}
-use Rattle.reader.specs.Bytes.{AllOf, isParameter, isIntermediate, endsSequence}
+use Rattle.reader.specs.Bytes.{AllOf, is_parameter, is_intermediate, ends_sequence}
 use Rattle.reader.specs.Functions.{Parameters, sequence}
 use Rattle.reader.specs.Steps.{Standing, Outcome, to, at_rest, sequence_final, step, performed, rest, in_parameters, in_intermediates}
 use Rattle.reader.specs.Numbers.{numbers, sequence_performs}
@@ -21,29 +21,29 @@ quiet_csi c (inl e) = ap (performed rest) e
 quiet_csi c (inr e) = ap (performed rest) e
 
 -- the final byte with no intermediate before it, and with some
-final_alone : (n : Parameters) (f : ℕ) → endsSequence f ≡ true → performed (in_parameters n) (f ∷ []) ≡ sequence_performs n [] f
+final_alone : (n : Parameters) (f : ℕ) → ends_sequence f ≡ true → performed (in_parameters n) (f ∷ []) ≡ sequence_performs n [] f
 final_alone n f h =
-    let one : isParameter f ≡ false = grind (arith, nat_tests) in
-    let two : isIntermediate f ≡ false = grind (arith, nat_tests) in
-    ap (λ (o : Outcome). o.performs ++ performed o.standing []) (cond-false (isParameter f) _ _ one ∙ cond-false (isIntermediate f) _ _ two ∙ cond-true (endsSequence f) _ _ h) ∙ shown n
+    let one : is_parameter f ≡ false = grind (arith, nat_tests) in
+    let two : is_intermediate f ≡ false = grind (arith, nat_tests) in
+    ap (λ (o : Outcome). o.performs ++ performed o.standing []) (cond-false (is_parameter f) _ _ one ∙ cond-false (is_intermediate f) _ _ two ∙ cond-true (ends_sequence f) _ _ h) ∙ shown n
   where
     shown : (n : Parameters) → (sequence_final n false f).performs ++ [] ≡ sequence_performs n [] f
     shown None = refl
     shown (Some ps) = refl
 
-final_between : (n : Parameters) (f : ℕ) → endsSequence f ≡ true → performed (in_intermediates n) (f ∷ []) ≡ (sequence_final n true f).performs ++ []
+final_between : (n : Parameters) (f : ℕ) → ends_sequence f ≡ true → performed (in_intermediates n) (f ∷ []) ≡ (sequence_final n true f).performs ++ []
 final_between n f h =
-    let two : isIntermediate f ≡ false = grind (arith, nat_tests) in
-    ap (λ (o : Outcome). o.performs ++ performed o.standing []) (cond-false (isIntermediate f) _ _ two ∙ cond-true (endsSequence f) _ _ h) ∙ rests n
+    let two : is_intermediate f ≡ false = grind (arith, nat_tests) in
+    ap (λ (o : Outcome). o.performs ++ performed o.standing []) (cond-false (is_intermediate f) _ _ two ∙ cond-true (ends_sequence f) _ _ h) ∙ rests n
   where
     rests : (n : Parameters) → (sequence_final n true f).performs ++ performed (sequence_final n true f).standing [] ≡ (sequence_final n true f).performs ++ []
     rests None = refl
     rests (Some ps) = refl
 
 -- intermediates that are no single 20
-final_others : (is : List ℕ) (f : ℕ) → AllOf isIntermediate is → endsSequence f ≡ true → performed (in_intermediates None) (is ++ f ∷ []) ≡ []
+final_others : (is : List ℕ) (f : ℕ) → AllOf is_intermediate is → ends_sequence f ≡ true → performed (in_intermediates None) (is ++ f ∷ []) ≡ []
 final_others [] f a h = final_between None f h
-final_others (b ∷ is) f a h = quiet_step (in_intermediates None) (in_intermediates None) b (is ++ f ∷ []) (cond-true (isIntermediate b) _ _ a.0) ∙ final_others is f a.1 h
+final_others (b ∷ is) f a h = quiet_step (in_intermediates None) (in_intermediates None) b (is ++ f ∷ []) (cond-true (is_intermediate b) _ _ a.0) ∙ final_others is f a.1 h
 
 one_between : (n : Parameters) (b f : ℕ) → (sequence_final (cond (eqb b 0x20) n None) true f).performs ++ [] ≡ sequence_performs n (b ∷ []) f
 one_between None b f = elim (eqb b 0x20) as (λ t. (sequence_final (cond t None None) true f).performs ++ [] ≡ []) [ true ↦ refl | false ↦ refl ]
@@ -53,16 +53,16 @@ two_between : (n : Parameters) (b c : ℕ) (is : List ℕ) (f : ℕ) → [] ≡ 
 two_between None b c is f = refl
 two_between (Some ps) b c is f = refl
 
-tail : (n : Parameters) (is : List ℕ) (f : ℕ) → AllOf isIntermediate is → endsSequence f ≡ true → performed (in_parameters n) (is ++ f ∷ []) ≡ sequence_performs n is f
+tail : (n : Parameters) (is : List ℕ) (f : ℕ) → AllOf is_intermediate is → ends_sequence f ≡ true → performed (in_parameters n) (is ++ f ∷ []) ≡ sequence_performs n is f
 tail n [] f a h = final_alone n f h
 tail n (b ∷ []) f a h = quiet_step (in_parameters n) _ b (f ∷ []) (first_between n b a.0) ∙ final_between (cond (eqb b 0x20) n None) f h ∙ one_between n b f
 tail n (b ∷ c ∷ is) f a h =
     quiet_step (in_parameters n) _ b (c ∷ (is ++ f ∷ [])) (first_between n b a.0)
-    ∙ quiet_step (in_intermediates (cond (eqb b 0x20) n None)) (in_intermediates None) c (is ++ f ∷ []) (cond-true (isIntermediate c) _ _ a.1.0)
+    ∙ quiet_step (in_intermediates (cond (eqb b 0x20) n None)) (in_intermediates None) c (is ++ f ∷ []) (cond-true (is_intermediate c) _ _ a.1.0)
     ∙ final_others is f a.1.1 h
     ∙ two_between n b c is f
 
-pub sequence_performed : (c ps is : List ℕ) (f : ℕ) → Spells 0x9B c → AllOf isParameter ps → AllOf isIntermediate is → endsSequence f ≡ true → performed rest (c ++ (ps ++ (is ++ f ∷ []))) ≡ sequence_performs (numbers ps) is f
+pub sequence_performed : (c ps is : List ℕ) (f : ℕ) → Spells 0x9B c → AllOf is_parameter ps → AllOf is_intermediate is → ends_sequence f ≡ true → performed rest (c ++ (ps ++ (is ++ f ∷ []))) ≡ sequence_performs (numbers ps) is f
 sequence_performed c ps is f s p i h =
     let R = is ++ f ∷ [] in
     let n = reads_numbers ps p in

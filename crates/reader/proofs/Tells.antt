@@ -9,12 +9,12 @@ use Rattle.reader.specs.declared.function.Completed.{Completed}
 use Rattle.reader.specs.declared.item.ControlString.{ControlString}
 use Rattle.reader.specs.declared.item.Kind.{Kind}
 use Rattle.reader.specs.declared.item.Kind.TheVariants.{Text, Control, Escape, Sequence, String, Broken, Rest}
-use Rattle.reader.specs.Bytes.{isOpener}
+use Rattle.reader.specs.Bytes.{is_opener}
 use Rattle.reader.specs.Functions.{Function, Parameters, graphic, control, reset, sequence}
 use Rattle.reader.specs.Steps.{Standing, step, rest, standing_after, performed}
 use Rattle.reader.specs.Numbers.{numbers, sequence_performs}
 use Rattle.reader.specs.Meaning.{function_of, functions_of}
-use Rattle.reader.specs.Telling.{only_sequence, tells_sequence, SequencesTell, opensString, Opened, Closed, StringParts, TellsString, StringIsOnly, StringsTell}
+use Rattle.reader.specs.Telling.{only_sequence, tells_sequence, SequencesTell, opens_string, Opened, Closed, StringParts, TellsString, StringIsOnly, StringsTell}
 use Rattle.reader.proofs.Parts.{performed_parts, performed_more}
 use Rattle.reader.proofs.Grammar.{items_perform}
 
@@ -126,18 +126,18 @@ opened_by [] = (0, [])
 opened_by (b ∷ []) = (b, [])
 opened_by (b ∷ c ∷ bs) = cond (eqb b 0x1B) (c + 64, bs) (b, c ∷ bs)
 
-no_escape : (k : ℕ) → opensString k ≡ true → eqb k 0x1B ≡ false
+no_escape : (k : ℕ) → opens_string k ≡ true → eqb k 0x1B ≡ false
 no_escape k h = grind (arith, nat_tests)
 
-higher : (k : ℕ) → opensString k ≡ true → (k - 64) + 64 ≡ k
+higher : (k : ℕ) → opens_string k ≡ true → (k - 64) + 64 ≡ k
 higher k h = grind (arith, nat_tests)
 
-opened_short : (k : ℕ) (l : List ℕ) → opensString k ≡ true → opened_by (k ∷ l) ≡ (k, l)
+opened_short : (k : ℕ) (l : List ℕ) → opens_string k ≡ true → opened_by (k ∷ l) ≡ (k, l)
 unfolding opened_by
 opened_short k [] h = refl
 opened_short k (b ∷ bs) h = cond-false (eqb k 0x1B) _ _ (no_escape k h)
 
-opened_long : (k : ℕ) (l : List ℕ) → opensString k ≡ true → opened_by (0x1B ∷ (k - 64) ∷ l) ≡ (k, l)
+opened_long : (k : ℕ) (l : List ℕ) → opens_string k ≡ true → opened_by (0x1B ∷ (k - 64) ∷ l) ≡ (k, l)
 unfolding opened_by
 opened_long k l h = ap (λ (j : ℕ). (j, l)) (higher k h)
 
@@ -157,8 +157,8 @@ string_is_only kind x j k a b (_, (l, o, c)) (_, (m, p, d)) =
 
 pub strings_tell : StringsTell
 strings_tell x = (
-  λ f. (refl, (f.body ++ f.st, (f.opener, or_left (isOpener f.by) _ f.known, f.opens, f.spelled), (f.st, f.ends, refl))),
-  λ f. (refl, (f.body ++ f.st, (f.opener, or_right (isOpener f.by) _ f.known, f.opens, f.spelled), (f.st, f.ends, refl))),
+  λ f. (refl, (f.body ++ f.st, (f.opener, or_left (is_opener f.by) _ f.known, f.opens, f.spelled), (f.st, f.ends, refl))),
+  λ f. (refl, (f.body ++ f.st, (f.opener, or_right (is_opener f.by) _ f.known, f.opens, f.spelled), (f.st, f.ends, refl))),
 )
 
 -- no parts
@@ -169,10 +169,10 @@ pub unclosed_parts : (x : List ℕ) (j : ℕ) (m : List ℕ) → Opened x j m �
 unclosed_parts x j m p none k body (l, o, c) = none body (subst (λ (z : List ℕ). Closed z body) (opened_is_only x k j l m o p).1 c)
 
 -- an opener at the front, in one form or the other
-pub opened_one : (x : List ℕ) (k : ℕ) (l : List ℕ) → k ∷ l ≡ x → opensString k ≡ true → Opened x k l
+pub opened_one : (x : List ℕ) (k : ℕ) (l : List ℕ) → k ∷ l ≡ x → opens_string k ≡ true → Opened x k l
 opened_one x k l e h = (k ∷ [], h, inl refl, sym e)
 
-pub opened_two : (x : List ℕ) (b k : ℕ) (l : List ℕ) → 0x1B ∷ b ∷ l ≡ x → k ≡ min (b + 64) 255 → opensString k ≡ true → Opened x k l
+pub opened_two : (x : List ℕ) (b k : ℕ) (l : List ℕ) → 0x1B ∷ b ∷ l ≡ x → k ≡ min (b + 64) 255 → opens_string k ≡ true → Opened x k l
 opened_two x b k l e m h =
     let lower : b ≡ k - 64 = grind (arith, nat_tests) in
     (0x1B ∷ (k - 64) ∷ [], h, inr refl, sym e ∙ ap (λ (z : ℕ). 0x1B ∷ z ∷ l) lower)

@@ -1,6 +1,6 @@
 -- The laws of reading.
 use Rattle.std.specs.Prelude.{◌≡◌, ℕ, Bool, true, false, List, [], ◌∷◌, ◌++◌, Some}
-use Rattle.reader.specs.Bytes.{AllOf, isParameter}
+use Rattle.reader.specs.Bytes.{AllOf, is_parameter}
 use Rattle.reader.specs.Functions.{reset}
 use Rattle.reader.specs.Steps.{Standing, rest, escape, in_parameters, in_intermediates, in_string, in_sos, standing_after, performed}
 use Rattle.reader.specs.Numbers.{numbers}
@@ -15,7 +15,7 @@ ReadsInParts =
 -- a parameter string, read byte by byte, is read as its numbers, and performs nothing
 abbrev pub ReadsNumbers : Type 0
 ReadsNumbers =
-    (ps : List ℕ) → AllOf isParameter ps
+    (ps : List ℕ) → AllOf is_parameter ps
     → (standing_after (in_parameters (Some [])) ps ≡ in_parameters (numbers ps)) × (performed (in_parameters (Some [])) ps ≡ [])
 
 abbrev pub is_in_sos : Standing → Bool

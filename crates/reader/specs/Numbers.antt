@@ -1,6 +1,6 @@
 -- What a whole parameter string says, and what a whole sequence performs.
 use Rattle.std.specs.Prelude.{ℕ, ◌+◌, ◌-◌, ◌*◌, min, Bool, true, false, cond, ◌&&◌, ◌||◌, List, [], ◌∷◌, map, length, Some, None, ◌==◌, nat_le}
-use Rattle.reader.specs.Bytes.{isDigit, isSeparator}
+use Rattle.reader.specs.Bytes.{is_digit, is_separator}
 use Rattle.reader.specs.Functions.{Parameter, Parameters, Function, sequence}
 
 -- a byte in front of the first part
@@ -11,7 +11,7 @@ onto b (p ∷ ps) = (b ∷ p) ∷ ps
 -- the parts between separators: one more than there are of these
 abbrev pub parts : List ℕ → List (List ℕ)
 parts [] = [] ∷ []
-parts (b ∷ bs) = cond (isSeparator b) ([] ∷ parts bs) (onto b (parts bs))
+parts (b ∷ bs) = cond (is_separator b) ([] ∷ parts bs) (onto b (parts bs))
 
 -- the number that digits make after n
 abbrev pub decimal : ℕ → List ℕ → ℕ
@@ -26,7 +26,7 @@ value (d ∷ ds) = Some (min 9999 (decimal 0 (d ∷ ds)))
 -- digits and separators alone
 abbrev pub plain : List ℕ → Bool
 plain [] = true
-plain (b ∷ bs) = (isDigit b || isSeparator b) && plain bs
+plain (b ∷ bs) = (is_digit b || is_separator b) && plain bs
 
 -- the parameters of a parameter string: none where it is empty, and at most sixteen
 abbrev pub numbers : List ℕ → Parameters

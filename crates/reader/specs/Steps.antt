@@ -1,6 +1,6 @@
 -- How bytes are read, one by one: where the reader stands, and what a byte does there.
 use Rattle.std.specs.Prelude.{ℕ, ◌+◌, ◌-◌, ◌*◌, min, Bool, true, false, cond, ◌&&◌, ◌||◌, List, [], ◌∷◌, ◌++◌, length, Some, None, ◌==◌, nat_le}
-use Rattle.reader.specs.Bytes.{among, isGraphic, isIntermediate, isParameter, isDigit, isSeparator, endsEscape, endsSequence, isOpener, isBody}
+use Rattle.reader.specs.Bytes.{among, is_graphic, is_intermediate, is_parameter, is_digit, is_separator, ends_escape, ends_sequence, is_opener, is_body}
 use Rattle.reader.specs.Functions.{Parameter, Parameters, Function, graphic, control, reset, sequence}
 
 -- where the reader stands between two bytes
@@ -62,16 +62,16 @@ bounded ps = cond (nat_le (length ps) 16) (Some ps) None
 -- one more parameter byte
 abbrev pub with_byte : Parameters → ℕ → Parameters
 with_byte None b = None
-with_byte (Some ps) b = cond (isDigit b) (Some (with_digit ps (b - 0x30))) (cond (isSeparator b) (bounded (with_separator ps)) None)
+with_byte (Some ps) b = cond (is_digit b) (Some (with_digit ps (b - 0x30))) (cond (is_separator b) (bounded (with_separator ps)) None)
 
 -- at rest; DEL and ST perform nothing
 abbrev pub resting : ℕ → Outcome
 resting b =
-    cond (isGraphic b) (ends (graphic b))
+    cond (is_graphic b) (ends (graphic b))
     (cond (b == 0x7F || b == 0x9C) (to rest)
     (cond (b == 0x1B) (to (escape false))
     (cond (b == 0x9B) (to (in_parameters (Some [])))
-    (cond (isOpener b) (to in_string)
+    (cond (is_opener b) (to in_string)
     (cond (b == 0x98) (to (in_sos false)) (ends (control b)))))))
 
 -- the same, kept shut, so that a proof about another standing does not look into it
@@ -91,13 +91,13 @@ sequence_final (Some ps) space b = ends (sequence ps space b)
 -- one byte; what does not fit is read as at rest
 abbrev pub step : Standing → ℕ → Outcome
 step rest b = at_rest b
-step (escape between) b = cond (isIntermediate b) (to (escape true)) (cond (endsEscape b) (escape_final between b) (at_rest b))
+step (escape between) b = cond (is_intermediate b) (to (escape true)) (cond (ends_escape b) (escape_final between b) (at_rest b))
 step (in_parameters ps) b =
-    cond (isParameter b) (to (in_parameters (with_byte ps b)))
-    (cond (isIntermediate b) (to (in_intermediates (cond (b == 0x20) ps None)))
-    (cond (endsSequence b) (sequence_final ps false b) (at_rest b)))
-step (in_intermediates ps) b = cond (isIntermediate b) (to (in_intermediates None)) (cond (endsSequence b) (sequence_final ps true b) (at_rest b))
-step in_string b = cond (isBody b) (to in_string) (at_rest b)
+    cond (is_parameter b) (to (in_parameters (with_byte ps b)))
+    (cond (is_intermediate b) (to (in_intermediates (cond (b == 0x20) ps None)))
+    (cond (ends_sequence b) (sequence_final ps false b) (at_rest b)))
+step (in_intermediates ps) b = cond (is_intermediate b) (to (in_intermediates None)) (cond (ends_sequence b) (sequence_final ps true b) (at_rest b))
+step in_string b = cond (is_body b) (to in_string) (at_rest b)
 step (in_sos escaped) b = cond (b == 0x9C || (escaped && b == 0x5C)) (to rest) (to (in_sos (b == 0x1B)))
 
 -- where bytes lead, and the functions that they perform

@@ -2,7 +2,7 @@
 use Rattle.std.specs.Prelude.{◌≡◌, ℕ, Bool, true, ◌||◌, List, [], ◌∷◌, ◌++◌, ◌==◌, nat_eq}
 use Rattle.reader.specs.declared.item.Kind.{Kind}
 use Rattle.reader.specs.declared.item.Kind.TheVariants.{Text, Control, Escape, Sequence, String, Broken, Rest}
-use Rattle.reader.specs.Bytes.{AllOf, isOpener, isBody}
+use Rattle.reader.specs.Bytes.{AllOf, is_opener, is_body}
 use Rattle.reader.specs.Functions.{Function, graphic, control, reset, sequence}
 use Rattle.reader.specs.Steps.{rest, performed}
 use Rattle.reader.specs.Numbers.{numbers, sequence_performs}
@@ -32,12 +32,12 @@ abbrev pub SequencesTell : Type 0
 SequencesTell = (x : List ℕ) (f : Sequenced x) → tells_sequence Sequence x ≡ sequence_performs (numbers f.parameters) f.between f.final
 
 -- DCS, SOS, OSC, PM and APC open a string
-abbrev pub opensString : ℕ → Bool
-opensString k = isOpener k || k == 0x98
+abbrev pub opens_string : ℕ → Bool
+opens_string k = is_opener k || k == 0x98
 
 -- x is such an opener, in either form, and then l
 abbrev pub Opened : List ℕ → ℕ → List ℕ → Type 0
-Opened x k l = (c : List ℕ) × (opensString k ≡ true) × Spells k c × (x ≡ c ++ l)
+Opened x k l = (c : List ℕ) × (opens_string k ≡ true) × Spells k c × (x ≡ c ++ l)
 
 -- l is the body and then ST, in either form
 abbrev pub Closed : List ℕ → List ℕ → Type 0
@@ -59,5 +59,5 @@ StringIsOnly = (kind : Kind) (x : List ℕ) (j k : ℕ) (a b : List ℕ) → Tel
 abbrev pub StringsTell : Type 0
 StringsTell =
     (x : List ℕ)
-    → ((f : Enclosed isOpener (AllOf isBody) x) → TellsString String x f.by f.body)
+    → ((f : Enclosed is_opener (AllOf is_body) x) → TellsString String x f.by f.body)
     × ((f : Enclosed (λ k. nat_eq k 0x98) Free x) → TellsString String x f.by f.body)

@@ -2,8 +2,8 @@
 use Rattle.std.specs.Prelude.{◌≡◌, ℕ, ◌+◌, ◌<◌, Bool, true, List, ◌++◌, length, drop}
 use Rattle.reader.specs.declared.item.Item.{Item}
 use Rattle.reader.specs.declared.item.Kind.{Kind}
-use Rattle.reader.specs.Bytes.{isOpener}
-use Rattle.reader.specs.Items.{Form, Spells, isBeginning}
+use Rattle.reader.specs.Bytes.{is_opener}
+use Rattle.reader.specs.Items.{Form, Spells, is_beginning}
 
 -- the bytes of an item
 abbrev pub spelling : Item → List ℕ
@@ -27,12 +27,12 @@ abbrev pub Leaves : (List ℕ → Type 0) → Kind → List ℕ → List ℕ →
 Leaves Opening k l t = (x : List ℕ) × (x ++ t ≡ l) × ((c : List ℕ) → Opening c → Form k (c ++ x) t)
 
 -- ESC and this byte begin a sequence or a string
-abbrev pub opensMore : ℕ → Bool
-opensMore b = isBeginning (b + 64)
+abbrev pub opens_more : ℕ → Bool
+opens_more b = is_beginning (b + 64)
 
 -- what opens a command string
 abbrev pub Opens : List ℕ → Type 0
-Opens c = (k : ℕ) × (isOpener k ≡ true) × Spells k c
+Opens c = (k : ℕ) × (is_opener k ≡ true) × Spells k c
 
 -- l begins with an item of the kind, and t follows it
 abbrev pub Leads : Kind → List ℕ → List ℕ → Type 0

@@ -3,7 +3,7 @@ ghost use Rattle.std.specs.Prelude.{◌≡◌, ℕ, ◌+◌, ◌<◌, ◌≤◌,
 ghost use Rattle.reader.specs.Bytes.{AllOf, Stops};
 ghost use Rattle.reader.specs.Items.{Spells, begins};
 ghost use Rattle.reader.specs.Classes.{member};
-ghost use Rattle.reader.specs.Walks.{Ended, Handed, Leaves, Leads, Opens, opensMore};
+ghost use Rattle.reader.specs.Walks.{Ended, Handed, Leaves, Leads, Opens, opens_more};
 ghost use Rattle.reader.specs.Performs.{Part, Cut, ItemsPerform, CutsPerform, CutIsOnly, RestIsUnfinished};
 
 use crate::item::{Item, Items, Kind};
@@ -65,7 +65,7 @@ fn sequence<'a>(rest: &'a [u8]) -> (Kind, &'a [u8])
 
 // After ESC, where the next byte opens nothing longer.
 fn escape<'a>(rest: &'a [u8]) -> (Kind, &'a [u8])
-    requires { Stops opensMore rest.now }
+    requires { Stops opens_more rest.now }
     ensures { Leaves (λ c. c ≡ 0x1B ∷ []) result.0 rest.now result.1.now }
 {
     let (_, tail) = run(Class::Intermediate, rest);

@@ -3,7 +3,7 @@ ghost use Rattle.std.specs.Prelude.{◌≡◌, ℕ, List, [], ◌∷◌, ◌++�
 ghost use Rattle.std.specs.Option.{option_map, option_to_list};
 ghost use Rattle.reader.specs.Meaning.{function_of, sequence_of};
 ghost use Rattle.reader.specs.Steps.{rest, performed};
-ghost use Rattle.reader.specs.Telling.{only_sequence, tells_sequence, SequencesTell, opensString, Opened, Closed, StringParts, TellsString, StringIsOnly, StringsTell};
+ghost use Rattle.reader.specs.Telling.{only_sequence, tells_sequence, SequencesTell, opens_string, Opened, Closed, StringParts, TellsString, StringIsOnly, StringsTell};
 
 use crate::function::{Function, Sequence};
 use crate::item::{ControlString, Item, Kind};
@@ -69,7 +69,7 @@ fn string_parts<'a>(bytes: &'a [u8]) -> Option<ControlString<'a>>
 }
 
 fn opens_string(control: u8) -> bool
-    ensures { result ≡ opensString control }
+    ensures { result ≡ opens_string control }
 {
     match control {
         0x90 | 0x98 | 0x9D..=0x9F => true,

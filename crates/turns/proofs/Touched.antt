@@ -8,7 +8,7 @@ use Rattle.refusal.specs.declared.Place.TheVariants.{Length, At}
 use Rattle.panel.specs.declared.cell.Cell.{Cell}
 use Rattle.panel.specs.Grids.{Grid, Whole, erased}
 use Rattle.panel.proofs.Places.{within_true}
-use Rattle.reader.specs.Bytes.{isGraphic}
+use Rattle.reader.specs.Bytes.{is_graphic}
 use Rattle.reader.specs.Functions.{Function}
 use Rattle.reader.specs.Steps.{Outcome, rest, is_at_rest, step}
 use Rattle.control.specs.declared.function.Control.TheVariants as c
@@ -33,7 +33,7 @@ use Rattle.turns.proofs.Done.{Done, nothing, bytes, sends, turn_done}
 abbrev own : Cell → Bool
 own x = not (foreign x)
 
-own_character : (b n : ℕ) → isGraphic b ≡ true → n < 34992 → own (record { code = b; rendition = n }) ≡ true
+own_character : (b n : ℕ) → is_graphic b ≡ true → n < 34992 → own (record { code = b; rendition = n }) ≡ true
 own_character b n g h = grind (arith, nat_tests)
 
 done_own : (f : Function) → Read f → (x : Sheet) → Every own x.grid.cells → Every own (does f x).grid.cells
