@@ -36,6 +36,6 @@ ReadsReset =
 abbrev pub StandingsDiffer : Type 0
 StandingsDiffer = (s t : Standing) → ((bs : List ℕ) → performed s bs ≡ performed t bs) → s ≡ t
 
--- where a delivery stops is told by the standing and the bytes alone: it is the one place that First-request describes
+-- where a delivery stops is told by the standing and the bytes alone: it is the one place that FirstRequest describes
 abbrev pub StopsAtRequest : Type 0
 StopsAtRequest = (s : Standing) (bs : List ℕ) → FirstRequest s bs (until_request s bs) × ((n : ℕ) → FirstRequest s bs n → n ≡ until_request s bs)
