@@ -1,15 +1,15 @@
 -- Deliveries: what is left of the bytes leads where all of them do.
-use Rattle.std.proofs.Common.{◌≡◌, ℕ, suc, ◌+◌, ◌<◌, ◌≤◌, Bool, true, false, leb, List, ◌∷◌, length, get_or, take, drop, is_some, sym, refl, ap, ◌∙◌, subst, arith, drop_of_length-le}
+use Rattle.std.proofs.Common.{◌≡◌, ℕ, suc, ◌+◌, ◌<◌, ◌≤◌, Bool, true, false, leb, List, ◌∷◌, length, get_or, take, drop, is_some, sym, refl, ap, ◌∙◌, arith, drop_of_length-le}
 use Rattle.std.proofs.lemmas.List.{drop_more, length-take-le}
 use Rattle.std.proofs.lemmas.Bool.{cond-true, cond-false, le-leb}
 use Rattle.reader.specs.Steps.{Standing}
 use Rattle.reader.specs.Requests.{until_request}
 use Rattle.reader.proofs.Stopping.{request_here, request_later, finds_first}
-use Rattle.page.specs.Sheets.{Sheet, Placed, Sits, sheet_of, upon}
+use Rattle.page.specs.Sheets.{Sheet, Placed, sheet_of, upon}
 use Rattle.page.specs.Effects.{stepped, run}
 use Rattle.refusal.specs.Table.{accepted}
 use Rattle.page.specs.Plain.{Plain, OnPanel, known, owes, taken_at, by_delivery, page_refuses, deliver_answer, delivered, after_bytes, taken, leaves}
-use Rattle.page.proofs.Stepping.{stepped_standing, stepped_owes, stepped_fits}
+use Rattle.page.proofs.Stepping.{stepped_standing, stepped_owes}
 
 -- all that bytes do
 abbrev pub fed : List ℕ → Sheet → Sheet
@@ -33,14 +33,13 @@ module _ (x : Sheet) (b : ℕ) (bs : List ℕ) (free : is_some x.state.owed ≡ 
 
 -- after i of the bytes, of which none has made a reply owed
 pub record Going (was here : Placed) (bytes : List ℕ) (i : ℕ) : Type 0 where
-  pub sits : Sits here
   pub free : is_some here.state.owed ≡ false
   pub left : fed (drop i bytes) (sheet_of here) ≡ fed bytes (sheet_of was)
   pub beyond : here.screen.beyond ≡ was.screen.beyond
   pub count : i + stops (sheet_of here) (drop i bytes) ≡ stops (sheet_of was) bytes
 
-pub going_none : (x : Placed) (bytes : List ℕ) → Sits x → is_some x.state.owed ≡ false → Going x x bytes 0
-going_none x bytes k f = record { sits = k; free = f; left = refl; beyond = refl; count = omega arith }
+pub going_none : (x : Placed) (bytes : List ℕ) → is_some x.state.owed ≡ false → Going x x bytes 0
+going_none x bytes f = record { free = f; left = refl; beyond = refl; count = omega arith }
 
 module _ {was here : Placed} {bytes : List ℕ} {i : ℕ} (g : Going was here bytes i) (lt : i < length bytes) (b : ℕ) (is : b ≡ get_or bytes i 0) (after : Placed) (e : after ≡ upon (λ x. stepped x b) here) where
   cut : drop i bytes ≡ b ∷ drop (i + 1) bytes
@@ -60,11 +59,9 @@ module _ {was here : Placed} {bytes : List ℕ} {i : ℕ} (g : Going was here by
   unfolding now
   going_more f =
       let one = one_byte (sheet_of here) b (drop (i + 1) bytes) g.free (owes_now false f) in
-      let fits = stepped_fits (sheet_of here) b (record { lines = g.sits.lines; columns = g.sits.columns }) in
       let same : stops (sheet_of after) (drop (i + 1) bytes) ≡ stops (stepped (sheet_of here) b) (drop (i + 1) bytes) = ap (λ (y : Sheet). stops y (drop (i + 1) bytes)) is_now in
       let cut_count : stops (sheet_of here) (drop i bytes) ≡ stops (sheet_of here) (b ∷ drop (i + 1) bytes) = ap (stops (sheet_of here)) cut in
       record {
-        sits = subst Sits (sym e) (record { lines = fits.lines; columns = fits.columns });
         free = f;
         left = ap (fed (drop (i + 1) bytes)) is_now ∙ sym (ap (λ (l : List ℕ). fed l (sheet_of here)) cut ∙ one.1) ∙ g.left;
         beyond = ap (λ (y : Placed). y.screen.beyond) e ∙ g.beyond;

@@ -1,5 +1,6 @@
 -- The plain page: what a page and its panel hold, as values; what start and deliver answer, and leave.
 use Rattle.std.specs.Prelude.{ℕ, Bool, true, false, cond, ◌&&◌, List, length, take, is_some, Some, None, Option, ◌==◌, nat_le}
+use Rattle.std.specs.Option.{option_map}
 use Rattle.refusal.specs.Table.{Answer, accepted, refused}
 use Rattle.refusal.specs.declared.Layer.TheVariants as layer
 use Rattle.refusal.specs.declared.Place.TheVariants.{Nowhere}
@@ -8,6 +9,7 @@ use Rattle.panel.specs.Screens.{Screen, Beyond, with_grid}
 use Rattle.reader.specs.Steps.{Standing}
 use Rattle.reader.specs.Requests.{until_request}
 use Rattle.page.specs.declared.page.Page.{Page}
+use Rattle.page.specs.declared.state.State as code
 use Rattle.page.specs.declared.view.View.{View}
 use Rattle.page.specs.declared.view.Delivered.{Delivered}
 use Rattle.page.specs.Sheets.{Sheet, Placed, state_of, on_state, owing}
@@ -23,8 +25,17 @@ pub record OnPanel : Type 0 where
   pub plain : Plain
   pub beyond : Beyond
 
+-- a page that was never started
+abbrev pub unstarted : Grid → Plain
+unstarted g = record { started = false; sheet = record { state = fresh 1 1; grid = g } }
+
+-- a state, if there is one, beside a grid
+abbrev pub plain_of : Option code.State → Grid → Plain
+plain_of None g = unstarted g
+plain_of (Some s) g = record { started = true; sheet = record { state = state_of s; grid = g } }
+
 abbrev pub plain : Page → Grid → Plain
-plain p g = record { started = p.started; sheet = record { state = state_of p.state; grid = g } }
+plain p g = plain_of p.state g
 
 abbrev pub on_panel : Page → Screen → OnPanel
 on_panel p s = record { plain = plain p s.grid; beyond = s.beyond }
@@ -82,26 +93,22 @@ started_page g = record { started = true; sheet = begun g }
 abbrev pub after_start : Plain → Plain
 after_start x = cond (startable x.sheet.grid) (started_page x.sheet.grid) x
 
--- a page that was never started
-abbrev pub unstarted : Grid → Plain
-unstarted g = record { started = false; sheet = record { state = fresh 1 1; grid = g } }
-
 -- nothing is owed any more
 abbrev pub settled : Plain → Plain
 settled x = record { started = x.started; sheet = on_state (owing None) x.sheet }
 
 -- what a page hands out of what it holds
+abbrev pub view_of_state : code.State → View
+view_of_state s = record {
+  size = s.size;
+  position = s.position;
+  rendition = s.rendition;
+  column_stops = s.column_stops.flags;
+  line_stops = s.line_stops.flags;
+  modes = s.modes;
+  standing = s.reader.standing;
+  owed = s.owed;
+}
+
 abbrev pub view_of : Page → Option View
-view_of p =
-    cond p.started
-    (Some (record {
-      size = record { lines = p.state.lines; columns = p.state.columns };
-      position = record { line = p.state.line; column = p.state.column };
-      rendition = p.state.rendition;
-      column_stops = p.state.column_stops;
-      line_stops = p.state.line_stops;
-      modes = p.state.modes;
-      standing = p.state.reader.standing;
-      owed = p.state.owed;
-    }))
-    None
+view_of p = option_map view_of_state p.state

@@ -35,13 +35,13 @@ pub record Placed : Type 0 where
 -- what the code's state means
 abbrev pub state_of : code.State → State
 state_of p = record {
-  lines = p.lines;
-  columns = p.columns;
-  line = p.line;
-  column = p.column;
+  lines = p.size.lines;
+  columns = p.size.columns;
+  line = p.position.line;
+  column = p.position.column;
   rendition = p.rendition;
-  column_stops = take p.columns p.column_stops;
-  line_stops = take p.lines p.line_stops;
+  column_stops = take p.size.columns p.column_stops.flags;
+  line_stops = take p.size.lines p.line_stops.flags;
   modes = p.modes;
   standing = standing_of p.reader.standing;
   owed = p.owed;

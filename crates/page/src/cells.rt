@@ -1,9 +1,10 @@
 // Movements of cells, feeds, and graphic characters. Every movement is one shift of a part of the page.
 ghost use Rattle.std.specs.Prelude.{◌≡◌, ℕ, ◌+◌, ◌-◌, ◌≤◌};
-ghost use Rattle.page.specs.Sheets.{state_of, placed, upon, Sits};
+ghost use Rattle.page.specs.Sheets.{state_of, placed, upon};
 ghost use Rattle.page.specs.Cells.{all_of, line_rest, page_rest, moved, insert_characters, delete_characters, insert_lines, delete_lines, scroll, line_feed, reverse_line_feed, next_line, set_character, character};
 ghost use Rattle.panel.specs.declared.shifting.Direction.TheVariants.{Right};
 
+use crate::sheet::Sheet;
 use crate::state::State;
 use panel::{Cell, Direction, Panel, Rectangle, shift};
 
@@ -14,8 +15,8 @@ impl State {
         Rectangle {
             top: 1,
             left: 1,
-            lines: self.lines,
-            columns: self.columns,
+            lines: self.size.lines,
+            columns: self.size.columns,
         }
     }
 
@@ -24,8 +25,8 @@ impl State {
         ensures { result ≡ line_rest (state_of self.now) }
     {
         Rectangle {
-            top: self.line,
-            left: self.column,
+            top: self.position.line,
+            left: self.position.column,
             lines: 1,
             columns: self.to_edge(),
         }
@@ -36,109 +37,101 @@ impl State {
         ensures { result ≡ page_rest (state_of self.now) }
     {
         Rectangle {
-            top: self.line,
+            top: self.position.line,
             left: 1,
-            lines: self.lines + 1 - self.line,
-            columns: self.columns,
+            lines: self.size.lines + 1 - self.position.line,
+            columns: self.size.columns,
         }
     }
+}
 
-    pub(crate) fn insert_characters<P: Panel>(&mut self, panel: &mut P, n: u16)
-        requires { Sits (placed self.old (P.Panel.shows panel.old)) }
-        ensures { placed self.new (P.Panel.shows panel.new) ≡ upon (insert_characters n) (placed self.old (P.Panel.shows panel.old)) }
+impl<P: Panel> Sheet<P> {
+    pub(crate) fn insert_characters(&mut self, n: u16)
+        ensures { placed self.new.state (P.Panel.shows self.new.panel) ≡ upon (insert_characters n) (placed self.old.state (P.Panel.shows self.old.panel)) }
     {
-        let _ = shift(panel, self.line_rest(), Direction::Right, n);
-        self.to_first_column();
+        let _ = shift(&mut self.panel, self.state.line_rest(), Direction::Right, n);
+        self.state.to_first_column();
     }
 
-    pub(crate) fn delete_characters<P: Panel>(&self, panel: &mut P, n: u16)
-        requires { Sits (placed self.now (P.Panel.shows panel.old)) }
-        ensures { placed self.now (P.Panel.shows panel.new) ≡ upon (delete_characters n) (placed self.now (P.Panel.shows panel.old)) }
+    pub(crate) fn delete_characters(&mut self, n: u16)
+        ensures { placed self.new.state (P.Panel.shows self.new.panel) ≡ upon (delete_characters n) (placed self.old.state (P.Panel.shows self.old.panel)) }
     {
-        let _ = shift(panel, self.line_rest(), Direction::Left, n);
+        let _ = shift(&mut self.panel, self.state.line_rest(), Direction::Left, n);
     }
 
-    pub(crate) fn insert_lines<P: Panel>(&mut self, panel: &mut P, n: u16)
-        requires { Sits (placed self.old (P.Panel.shows panel.old)) }
-        ensures { placed self.new (P.Panel.shows panel.new) ≡ upon (insert_lines n) (placed self.old (P.Panel.shows panel.old)) }
+    pub(crate) fn insert_lines(&mut self, n: u16)
+        ensures { placed self.new.state (P.Panel.shows self.new.panel) ≡ upon (insert_lines n) (placed self.old.state (P.Panel.shows self.old.panel)) }
     {
-        let _ = shift(panel, self.page_rest(), Direction::Down, n);
-        self.to_first_column();
+        let _ = shift(&mut self.panel, self.state.page_rest(), Direction::Down, n);
+        self.state.to_first_column();
     }
 
-    pub(crate) fn delete_lines<P: Panel>(&mut self, panel: &mut P, n: u16)
-        requires { Sits (placed self.old (P.Panel.shows panel.old)) }
-        ensures { placed self.new (P.Panel.shows panel.new) ≡ upon (delete_lines n) (placed self.old (P.Panel.shows panel.old)) }
+    pub(crate) fn delete_lines(&mut self, n: u16)
+        ensures { placed self.new.state (P.Panel.shows self.new.panel) ≡ upon (delete_lines n) (placed self.old.state (P.Panel.shows self.old.panel)) }
     {
-        let _ = shift(panel, self.page_rest(), Direction::Up, n);
-        self.to_first_column();
+        let _ = shift(&mut self.panel, self.state.page_rest(), Direction::Up, n);
+        self.state.to_first_column();
     }
 
-    pub(crate) fn scroll<P: Panel>(&self, panel: &mut P, way: Direction, n: u16)
-        requires { Sits (placed self.now (P.Panel.shows panel.old)) }
-        ensures { placed self.now (P.Panel.shows panel.new) ≡ upon (scroll way n) (placed self.now (P.Panel.shows panel.old)) }
+    pub(crate) fn scroll(&mut self, way: Direction, n: u16)
+        ensures { placed self.new.state (P.Panel.shows self.new.panel) ≡ upon (scroll way n) (placed self.old.state (P.Panel.shows self.old.panel)) }
     {
-        let _ = shift(panel, self.all(), way, n);
+        let _ = shift(&mut self.panel, self.state.all(), way, n);
     }
 
-    pub(crate) fn line_feed<P: Panel>(&mut self, panel: &mut P)
-        requires { Sits (placed self.old (P.Panel.shows panel.old)) }
-        ensures { placed self.new (P.Panel.shows panel.new) ≡ upon line_feed (placed self.old (P.Panel.shows panel.old)) }
+    pub(crate) fn line_feed(&mut self)
+        ensures { placed self.new.state (P.Panel.shows self.new.panel) ≡ upon line_feed (placed self.old.state (P.Panel.shows self.old.panel)) }
     {
-        if self.line < self.lines {
-            self.down(1);
+        if self.state.position.line < self.state.size.lines {
+            self.state.down(1);
         } else {
-            self.scroll(panel, Direction::Up, 1);
+            self.scroll(Direction::Up, 1);
         }
     }
 
-    pub(crate) fn reverse_line_feed<P: Panel>(&mut self, panel: &mut P)
-        requires { Sits (placed self.old (P.Panel.shows panel.old)) }
-        ensures { placed self.new (P.Panel.shows panel.new) ≡ upon reverse_line_feed (placed self.old (P.Panel.shows panel.old)) }
+    pub(crate) fn reverse_line_feed(&mut self)
+        ensures { placed self.new.state (P.Panel.shows self.new.panel) ≡ upon reverse_line_feed (placed self.old.state (P.Panel.shows self.old.panel)) }
     {
-        if 1 < self.line {
-            self.up(1);
+        if 1 < self.state.position.line {
+            self.state.up(1);
         } else {
-            self.scroll(panel, Direction::Down, 1);
+            self.scroll(Direction::Down, 1);
         }
     }
 
-    pub(crate) fn next_line<P: Panel>(&mut self, panel: &mut P)
-        requires { Sits (placed self.old (P.Panel.shows panel.old)) }
-        ensures { placed self.new (P.Panel.shows panel.new) ≡ upon next_line (placed self.old (P.Panel.shows panel.old)) }
+    pub(crate) fn next_line(&mut self)
+        ensures { placed self.new.state (P.Panel.shows self.new.panel) ≡ upon next_line (placed self.old.state (P.Panel.shows self.old.panel)) }
     {
-        self.to_first_column();
-        self.line_feed(panel);
+        self.state.to_first_column();
+        self.line_feed();
     }
 
     // Sets a graphic character at the active position, which grows by one column.
-    fn set_character<P: Panel>(&mut self, panel: &mut P, code: u8)
-        requires { Sits (placed self.old (P.Panel.shows panel.old)) }
-        ensures { placed self.new (P.Panel.shows panel.new) ≡ upon (set_character code) (placed self.old (P.Panel.shows panel.old)) }
+    fn set_character(&mut self, code: u8)
+        ensures { placed self.new.state (P.Panel.shows self.new.panel) ≡ upon (set_character code) (placed self.old.state (P.Panel.shows self.old.panel)) }
     {
         let cell = Cell {
             code,
-            rendition: self.rendition_number,
+            rendition: self.state.rendition_number,
         };
-        let _ = panel.set(self.line, self.column, cell);
-        self.advance();
+        let at = self.state.position;
+        let _ = self.panel.set(at.line, at.column, cell);
+        self.state.advance();
     }
 
     // The rest of the line moves one right.
-    fn open<P: Panel>(&self, panel: &mut P)
-        requires { Sits (placed self.now (P.Panel.shows panel.old)) }
-        ensures { placed self.now (P.Panel.shows panel.new) ≡ upon (moved line_rest Right 1) (placed self.now (P.Panel.shows panel.old)) }
+    fn open(&mut self)
+        ensures { placed self.new.state (P.Panel.shows self.new.panel) ≡ upon (moved line_rest Right 1) (placed self.old.state (P.Panel.shows self.old.panel)) }
     {
-        let _ = shift(panel, self.line_rest(), Direction::Right, 1);
+        let _ = shift(&mut self.panel, self.state.line_rest(), Direction::Right, 1);
     }
 
-    pub(crate) fn character<P: Panel>(&mut self, panel: &mut P, code: u8)
-        requires { Sits (placed self.old (P.Panel.shows panel.old)) }
-        ensures { placed self.new (P.Panel.shows panel.new) ≡ upon (character code) (placed self.old (P.Panel.shows panel.old)) }
+    pub(crate) fn character(&mut self, code: u8)
+        ensures { placed self.new.state (P.Panel.shows self.new.panel) ≡ upon (character code) (placed self.old.state (P.Panel.shows self.old.panel)) }
     {
-        if self.modes.insertion {
-            self.open(panel);
+        if self.state.modes.insertion {
+            self.open();
         }
-        self.set_character(panel, code);
+        self.set_character(code);
     }
 }

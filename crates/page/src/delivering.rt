@@ -1,32 +1,31 @@
 // The calls of a page: start, deliver, what it shows, and settle.
-ghost use Rattle.std.specs.Prelude.{◌≡◌, ℕ, ◌+◌, ◌≤◌, true, false, List, is_some};
+ghost use Rattle.std.specs.Prelude.{◌≡◌, ℕ, ◌+◌, ◌≤◌, true, false, List, is_some, None};
 ghost use Rattle.panel.specs.Grids.{Grid};
 ghost use Rattle.reader.specs.Requests.{until_request};
 ghost use Rattle.refusal.specs.Table.{answer};
-ghost use Rattle.page.specs.Sheets.{placed, upon, Sits, state_of};
+ghost use Rattle.page.specs.Sheets.{placed, upon, state_of};
 ghost use Rattle.page.specs.Effects.{run};
-ghost use Rattle.page.specs.Plain.{plain, unstarted, known, owes, taken_at, deliver_answer, delivered, start_answer, after_start, leaves, on_panel, view_of, settled};
+ghost use Rattle.page.specs.Plain.{plain, unstarted, known, taken_at, deliver_answer, delivered, start_answer, after_start, leaves, on_panel, view_of, settled};
 ghost use Rattle.page.specs.Proper.{Proper};
 ghost use Rattle.page.specs.Laws.{DeliversInParts, ShowsItems};
 
-use crate::acting::fresh_state;
 use crate::page::Page;
+use crate::sheet::Sheet;
 use crate::state::State;
-use crate::view::{Delivered, Position, View};
-use panel::{Panel, Size};
+use crate::view::{Delivered, View};
+use panel::{Lent, Panel, clear};
 use refusal::Refusal;
 
-impl State {
+impl<P: Panel> Sheet<P> {
     // Lets bytes act, through the first that makes a reply owed, and counts them. Their number has no bound.
-    fn feed<P: Panel>(&mut self, panel: &mut P, bytes: &[u8]) -> usize
-        requires sits { Sits (placed self.old (P.Panel.shows panel.old)) }
-        requires free { is_some self.old.owed ≡ false }
-        ensures count { result ≡ until_request (state_of self.old).standing bytes.now }
-        ensures after { placed self.new (P.Panel.shows panel.new) ≡ upon (λ x. run x (taken_at x.state.standing bytes.now)) (placed self.old (P.Panel.shows panel.old)) }
+    fn feed(&mut self, bytes: &[u8]) -> usize
+        requires { is_some self.old.state.owed ≡ false }
+        ensures count { result ≡ until_request (state_of self.old.state).standing bytes.now }
+        ensures after { placed self.new.state (P.Panel.shows self.new.panel) ≡ upon (λ x. run x (taken_at x.state.standing bytes.now)) (placed self.old.state (P.Panel.shows self.old.panel)) }
     {
-        for i in 0..bytes.len() {
-            self.step(panel, bytes[i]);
-            if self.owed.is_some() {
+        for (i, byte) in bytes.iter().enumerate() {
+            self.step(*byte);
+            if self.state.owed.is_some() {
                 return i + 1;
             }
         }
@@ -35,15 +34,12 @@ impl State {
 }
 
 impl Page {
-    // A page that is not started. Behind it stands what a page of one cell begins with; no call answers by that.
+    // A page that is not started.
     pub fn new() -> Page
-        ensures not_started { result.started ≡ false }
+        ensures not_started { result.state ≡ None }
         ensures shows { (g : Grid) → plain result g ≡ unstarted g }
     {
-        Page {
-            started: false,
-            state: fresh_state(1, 1),
-        }
+        Page { state: None }
     }
 
     // Begins a page on a panel of 1 to 64 lines and 1 to 132 columns, whether it was started or not.
@@ -51,74 +47,58 @@ impl Page {
         ensures says { answer result ≡ start_answer (P.Panel.shows panel.old).grid }
         ensures after { on_panel self.new (P.Panel.shows panel.new) ≡ leaves after_start (on_panel self.old (P.Panel.shows panel.old)) }
     {
-        let Size { lines, columns } = panel.size();
-        if 1 <= lines && lines <= 64 && 1 <= columns && columns <= 132 {
-            self.state.begin(panel, lines, columns);
-            self.started = true;
-            Ok(())
-        } else {
-            Err(Refusal::PanelSize)
+        let size = panel.size();
+        if !matches!((size.lines, size.columns), (1..=64, 1..=132)) {
+            return Err(Refusal::PanelSize);
         }
-    }
-
-    // Whether the page was started, and on a panel of this size.
-    fn knows<P: Panel>(&self, panel: &P) -> bool
-        ensures { result ≡ known (plain self.now (P.Panel.shows panel.now).grid) }
-    {
-        let Size { lines, columns } = panel.size();
-        self.started && self.state.lines == lines && self.state.columns == columns
+        clear(panel);
+        self.state = Some(State::new(size));
+        Ok(())
     }
 
     // Lets bytes act one by one, through the first that makes a reply owed, else all.
+    #[tactic(auto, using(crate::proofs::Parts::delivers_in_parts, crate::proofs::BytesAct::shows_items, crate::proofs::Deliveries::delivers))]
     pub fn deliver<P: Panel>(&mut self, panel: &mut P, bytes: &[u8]) -> Result<Delivered, Refusal>
         ensures says { answer result ≡ deliver_answer (plain self.old (P.Panel.shows panel.old).grid) bytes.now }
         ensures after { on_panel self.new (P.Panel.shows panel.new) ≡ leaves (delivered bytes.now) (on_panel self.old (P.Panel.shows panel.old)) }
         ensures parts { DeliversInParts }
         ensures items { ShowsItems }
     {
-        if !self.knows(panel) {
+        let Some(state) = self.state else {
+            return Err(Refusal::OtherPanel);
+        };
+        if state.size != panel.size() {
             return Err(Refusal::OtherPanel);
         }
         if bytes.len() > 4096 {
             return Err(Refusal::TooLong);
         }
-        if self.state.owed.is_some() {
+        if state.owed.is_some() {
             return Err(Refusal::ReplyOwed);
         }
-        let taken = self.state.feed(panel, bytes);
+        let mut sheet = Sheet {
+            state,
+            panel: Lent::new(panel),
+        };
+        let taken = sheet.feed(bytes);
+        self.state = Some(sheet.state);
         Ok(Delivered { taken })
     }
 
     // What the page holds beside its cells; nothing where it is not started.
     pub fn view(&self) -> Option<View>
         ensures answer { result ≡ view_of self.now }
-        ensures proper { Proper (state_of self.now.state) }
+        ensures proper { (g : Grid) → Proper (plain self.now g).sheet.state }
     {
-        if !self.started {
-            return None;
-        }
-        Some(View {
-            size: Size {
-                lines: self.state.lines,
-                columns: self.state.columns,
-            },
-            position: Position {
-                line: self.state.line,
-                column: self.state.column,
-            },
-            rendition: self.state.rendition,
-            column_stops: self.state.column_stops,
-            line_stops: self.state.line_stops,
-            modes: self.state.modes,
-            standing: self.state.reader.standing(),
-            owed: self.state.owed,
-        })
+        self.state.as_ref().map(View::of)
     }
 
     // Nothing is owed any more: a reply was sent.
     pub fn settle(&mut self)
         ensures { (g : Grid) → plain self.new g ≡ settled (plain self.old g) }
     {
-        self.state.owed = None;
+        if let Some(state) = &mut self.state {
+            state.owed = None;
+        }
     }
 }

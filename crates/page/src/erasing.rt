@@ -1,60 +1,67 @@
 // Erasures: ED, EL and ECH. Each is one run of cells.
 ghost use Rattle.std.specs.Prelude.{◌≡◌, ℕ, ◌+◌, ◌-◌, ◌*◌, ◌≤◌};
-ghost use Rattle.page.specs.Sheets.{state_of, placed, upon, Sits};
+ghost use Rattle.page.specs.Sheets.{state_of, placed, upon};
 ghost use Rattle.page.specs.Cells.{here, cells_in, to_edge, erase_in_page, erase_in_line, erase_characters};
 
+use crate::sheet::Sheet;
 use crate::state::State;
 use control::function::Extent;
-use panel::Panel;
+use panel::{Panel, Position};
 
 impl State {
     // The active position in reading order, counted from 0.
     fn here(&self) -> usize
         ensures { result ≡ here (state_of self.now) }
     {
-        (self.line as usize - 1) * self.columns as usize + (self.column as usize - 1)
+        let Position { line, column } = self.position;
+        (line as usize - 1) * self.size.columns as usize + (column as usize - 1)
     }
 
     fn cells(&self) -> usize
         ensures { result ≡ cells_in (state_of self.now) }
     {
-        self.lines as usize * self.columns as usize
+        self.size.lines as usize * self.size.columns as usize
     }
 
     // The columns from the active one to the edge.
     pub(crate) fn to_edge(&self) -> u16
         ensures { result ≡ to_edge (state_of self.now) }
     {
-        self.columns + 1 - self.column
+        self.size.columns + 1 - self.position.column
     }
+}
 
-    pub(crate) fn erase_in_page<P: Panel>(&self, panel: &mut P, extent: Extent)
-        requires { Sits (placed self.now (P.Panel.shows panel.old)) }
-        ensures { placed self.now (P.Panel.shows panel.new) ≡ upon (erase_in_page extent) (placed self.now (P.Panel.shows panel.old)) }
+impl<P: Panel> Sheet<P> {
+    pub(crate) fn erase_in_page(&mut self, extent: Extent)
+        ensures { placed self.new.state (P.Panel.shows self.new.panel) ≡ upon (erase_in_page extent) (placed self.old.state (P.Panel.shows self.old.panel)) }
     {
+        let state = &self.state;
+        let Position { line, column } = state.position;
         let _ = match extent {
-            Extent::ToEnd => panel.erase(self.line, self.column, self.cells() - self.here()),
-            Extent::FromStart => panel.erase(1, 1, self.here() + 1),
-            Extent::All => panel.erase(1, 1, self.cells()),
+            Extent::ToEnd => self.panel.erase(line, column, state.cells() - state.here()),
+            Extent::FromStart => self.panel.erase(1, 1, state.here() + 1),
+            Extent::All => self.panel.erase(1, 1, state.cells()),
         };
     }
 
-    pub(crate) fn erase_in_line<P: Panel>(&self, panel: &mut P, extent: Extent)
-        requires { Sits (placed self.now (P.Panel.shows panel.old)) }
-        ensures { placed self.now (P.Panel.shows panel.new) ≡ upon (erase_in_line extent) (placed self.now (P.Panel.shows panel.old)) }
+    pub(crate) fn erase_in_line(&mut self, extent: Extent)
+        ensures { placed self.new.state (P.Panel.shows self.new.panel) ≡ upon (erase_in_line extent) (placed self.old.state (P.Panel.shows self.old.panel)) }
     {
+        let state = &self.state;
+        let Position { line, column } = state.position;
         let _ = match extent {
-            Extent::ToEnd => panel.erase(self.line, self.column, self.to_edge() as usize),
-            Extent::FromStart => panel.erase(self.line, 1, self.column as usize),
-            Extent::All => panel.erase(self.line, 1, self.columns as usize),
+            Extent::ToEnd => self.panel.erase(line, column, state.to_edge() as usize),
+            Extent::FromStart => self.panel.erase(line, 1, column as usize),
+            Extent::All => self.panel.erase(line, 1, state.size.columns as usize),
         };
     }
 
     // `n` cells from the active position, to the line's end at most.
-    pub(crate) fn erase_characters<P: Panel>(&self, panel: &mut P, n: u16)
-        requires { Sits (placed self.now (P.Panel.shows panel.old)) }
-        ensures { placed self.now (P.Panel.shows panel.new) ≡ upon (erase_characters n) (placed self.now (P.Panel.shows panel.old)) }
+    pub(crate) fn erase_characters(&mut self, n: u16)
+        ensures { placed self.new.state (P.Panel.shows self.new.panel) ≡ upon (erase_characters n) (placed self.old.state (P.Panel.shows self.old.panel)) }
     {
-        let _ = panel.erase(self.line, self.column, n.min(self.to_edge()) as usize);
+        let Position { line, column } = self.state.position;
+        let count = n.min(self.state.to_edge());
+        let _ = self.panel.erase(line, column, count as usize);
     }
 }

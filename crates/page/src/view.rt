@@ -1,7 +1,12 @@
 // What a page answers.
+ghost use Rattle.std.specs.Prelude.{◌≡◌};
+ghost use Rattle.page.specs.Plain.{view_of_state};
+
+use crate::state::State;
 use control::function::Report;
 use control::modes::Modes;
 use control::rendition::Rendition;
+pub use panel::Position;
 use panel::Size;
 use reader::standing::Standing;
 
@@ -10,12 +15,6 @@ use reader::standing::Standing;
 pub struct Delivered {
     // how many bytes were taken
     pub taken: usize,
-}
-
-#[derive(Clone, Copy)]
-pub struct Position {
-    pub line: u16,
-    pub column: u16,
 }
 
 // What a page holds beside its cells. A stop is a flag for its column or line, counted from 0; flags
@@ -30,4 +29,21 @@ pub struct View {
     pub modes: Modes,
     pub standing: Standing,
     pub owed: Option<Report>,
+}
+
+impl View {
+    pub(crate) fn of(state: &State) -> View
+        ensures { result ≡ view_of_state state.now }
+    {
+        View {
+            size: state.size,
+            position: state.position,
+            rendition: state.rendition,
+            column_stops: state.column_stops.flags,
+            line_stops: state.line_stops.flags,
+            modes: state.modes,
+            standing: state.reader.standing(),
+            owed: state.owed,
+        }
+    }
 }

@@ -1,4 +1,4 @@
-use Rattle.std.proofs.Common.{false, ap, arith}
+use Rattle.std.proofs.Common.{false, take, ap, ◌∙◌, arith}
 use Rattle.std.proofs.lemmas.List.{take-replicate}
 use Rattle.page.specs.Sheets.{state_of, with_stops}
 use Rattle.page.proofs.state.State.clear_lines.Goals as goal
@@ -6,4 +6,5 @@ use Rattle.page.proofs.state.State.clear_lines.Goals as goal
 pub returns : goal.returns
 returns c =
     let p = c.args.self.now in
-    ap (λ t. with_stops (state_of p).column_stops t (state_of p)) (take-replicate p.lines 64 false (omega arith))
+    let n = p.size.lines in
+    ap (λ t. with_stops (state_of p).column_stops t (state_of p)) (ap (take n) c.none-self.ensures ∙ take-replicate n 64 false (omega arith))

@@ -1,12 +1,9 @@
 use Rattle.std.proofs.Common.{sym, refl}
 use Rattle.page.proofs.Deliveries.{going_none, going_more, going_stop, going_all}
-use Rattle.page.proofs.state.State.feed.Goals as goal
+use Rattle.page.proofs.sheet.Sheet.feed.Goals as goal
 
 pub loop-i-init : goal.loop-i-init
-loop-i-init g c = going_none _ c.args.bytes.now c.requires.sits c.requires.free
-
-pub step-requires : goal.step-requires
-step-requires g c = c.loop-i.invariant.sits
+loop-i-init g c = going_none _ c.args.bytes.now c.requires
 
 pub returns-then-is_some : goal.returns-then-is_some
 returns-then-is_some g c =
