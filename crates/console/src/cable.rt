@@ -3,27 +3,15 @@ use page::page::Page;
 use panel::Panel;
 use refusal::Refusal;
 
-#[derive(Clone, Copy)]
+#[derive(Clone, Copy, Debug, Default)]
 pub struct Account {
     pub taken: usize,
     // how often a reply was requested
     pub requests: usize,
 }
 
-impl Account {
-    pub(crate) fn new() -> Account {
-        Account {
-            taken: 0,
-            requests: 0,
-        }
-    }
-}
-
 pub(crate) fn is_owing(page: &Page) -> bool {
-    match page.view() {
-        Some(view) => view.owed.is_some(),
-        None => false,
-    }
+    page.view().is_some_and(|view| view.owed.is_some())
 }
 
 // Delivers a piece. No reply is sent yet: one that is owed counts as sent when more bytes come, so that these go on.
@@ -34,7 +22,8 @@ pub(crate) fn send<P: Panel>(
     piece: &[u8],
 ) -> Result<(), Refusal> {
     let mut rest = piece;
-    for _ in 0..piece.len() {
+    // No piece needs more deliveries than it has bytes.
+    for _ in piece {
         if rest.is_empty() {
             break;
         }

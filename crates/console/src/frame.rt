@@ -2,12 +2,12 @@
 use crate::cable::Account;
 use crate::call::Failure;
 use crate::sgr;
-use control::function::Report;
+use crate::shown::OwedShown;
 use page::page::Page;
 use panel::{ERASED, Panel};
 use std::alloc::{AllocError, Global};
 
-#[derive(Clone, Copy)]
+#[derive(Clone, Copy, Debug, PartialEq, Eq)]
 pub enum Look {
     // renditions as the terminal has them
     Rendered,
@@ -24,8 +24,8 @@ pub(crate) fn print_panel<P: Panel>(
     let size = panel.size();
     let edge = edge(heap, size.columns)?;
     println!(rt; "{edge}")?;
-    for line in 0..size.lines {
-        let text = line_text(heap, panel, line + 1, look)?;
+    for line in 1..=size.lines {
+        let text = line_text(heap, panel, line, look)?;
         println!(rt; "|{text}|")?;
     }
     println!(rt; "{edge}")?;
@@ -49,11 +49,8 @@ fn line_text<P: Panel>(
 ) -> Result<String, AllocError> {
     let mut text = String::new(heap);
     let mut shown = ERASED.rendition;
-    for column in 0..panel.size().columns {
-        let cell = match panel.cell(line, column + 1) {
-            Ok(cell) => cell,
-            Err(_) => ERASED,
-        };
+    for column in 1..=panel.size().columns {
+        let cell = panel.cell(line, column).unwrap_or(ERASED);
         if cell.rendition != shown {
             shown = cell.rendition;
             put_rendition(heap, &mut text, look, shown)?;
@@ -91,7 +88,7 @@ pub(crate) fn print_below(rt: &HostRuntime, page: &Page, account: Account) -> Re
     if let Some(view) = page.view() {
         let line = view.position.line;
         let column = view.position.column;
-        let owed = owed_name(view.owed);
+        let owed = OwedShown(view.owed);
         println!(rt; "line {line}, column {column}; owed: {owed}; bytes taken: {taken}")?;
     }
     if requests > 0 {
@@ -100,12 +97,4 @@ pub(crate) fn print_below(rt: &HostRuntime, page: &Page, account: Account) -> Re
         )?;
     }
     Ok(())
-}
-
-fn owed_name(owed: Option<Report>) -> &'static str {
-    match owed {
-        None => "nothing",
-        Some(Report::Status) => "the status",
-        Some(Report::Position) => "the position",
-    }
 }

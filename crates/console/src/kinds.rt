@@ -1,9 +1,9 @@
-// Panels of each kind, on memory of the program, and a page on them.
+// Panels of each kind, on memory of the program, and what is done on one.
 use crate::call::Failure;
-use crate::show::{Show, show_on};
-use panel::{ERASED, Lent, ListPanel, ModulePanel, Panel, Rectangle, Size, Window};
+use panel::{Cell, ERASED, Lent, ListPanel, ModulePanel, Panel, Rectangle, Size, Window};
+use std::str::FromStr;
 
-#[derive(Clone, Copy)]
+#[derive(Clone, Copy, Debug, PartialEq, Eq)]
 pub enum Kind {
     List,
     Module,
@@ -13,38 +13,78 @@ pub enum Kind {
     WindowModule,
 }
 
+// A word that names no kind of panel.
+#[derive(Clone, Copy, Debug)]
+pub struct UnknownKind;
+
+impl FromStr for Kind {
+    type Err = UnknownKind;
+
+    fn from_str(word: &str) -> Result<Kind, UnknownKind> {
+        match word {
+            "list" => Ok(Kind::List),
+            "module" => Ok(Kind::Module),
+            "window" => Ok(Kind::Window),
+            "window-module" => Ok(Kind::WindowModule),
+            _ => Err(UnknownKind),
+        }
+    }
+}
+
 pub(crate) const MOST: Size = Size {
     lines: 64,
     columns: 132,
 };
 
 pub(crate) fn is_page_size(size: Size) -> bool {
-    1 <= size.lines && size.lines <= MOST.lines && 1 <= size.columns && size.columns <= MOST.columns
-}
-
-pub(crate) fn show_on_kind(rt: &HostRuntime, show: &Show, bytes: &[u8]) -> Result<(), Failure> {
-    match show.kind {
-        Kind::List => on_list(rt, show, bytes),
-        Kind::Module => on_module(rt, show, bytes),
-        Kind::Window => on_window_list(rt, show, bytes),
-        Kind::WindowModule => on_window_module(rt, show, bytes),
-    }
+    matches!((size.lines, size.columns), (1..=64, 1..=132))
 }
 
 pub(crate) fn cells(size: Size) -> usize {
     size.lines as usize * size.columns as usize
 }
 
-fn on_list(rt: &HostRuntime, show: &Show, bytes: &[u8]) -> Result<(), Failure> {
-    let mut memory = vec![in rt.alloc(); ERASED; cells(show.size)]?;
-    let mut panel = ListPanel::new(memory.as_mut_slice(), show.size.lines, show.size.columns);
-    show_on(rt, &mut panel, show.look, bytes)
+// What is done on a panel, whatever its kind.
+pub trait OnPanel {
+    fn run<P: Panel>(&self, rt: &HostRuntime, panel: &mut P) -> Result<(), Failure>;
 }
 
-fn on_module(rt: &HostRuntime, show: &Show, bytes: &[u8]) -> Result<(), Failure> {
-    let mut memory = vec![in rt.alloc(); 0; cells(show.size).saturating_mul(3)]?;
-    let mut panel = ModulePanel::new(memory.as_mut_slice(), show.size.lines, show.size.columns);
-    show_on(rt, &mut panel, show.look, bytes)
+// The same on a window.
+#[derive(Clone, Copy)]
+pub struct InWindow<'a, T> {
+    frame: Rectangle,
+    what: &'a T,
+}
+
+impl<T: OnPanel> OnPanel for InWindow<'_, T> {
+    fn run<P: Panel>(&self, rt: &HostRuntime, panel: &mut P) -> Result<(), Failure> {
+        let mut window = Window::new(Lent::new(panel), self.frame);
+        self.what.run(rt, &mut window)
+    }
+}
+
+// Does it on a list panel, and answers the memory as it is then.
+pub(crate) fn on_list<T: OnPanel>(
+    rt: &HostRuntime,
+    size: Size,
+    what: &T,
+) -> Result<Vec<Cell>, Failure> {
+    let mut memory = vec![in rt.alloc(); ERASED; cells(size)]?;
+    let mut panel = ListPanel::new(memory.as_mut_slice(), size.lines, size.columns);
+    what.run(rt, &mut panel)?;
+    Ok(memory)
+}
+
+// The same on a module panel.
+pub(crate) fn on_module<T: OnPanel>(
+    rt: &HostRuntime,
+    size: Size,
+    what: &T,
+) -> Result<Vec<u8>, Failure> {
+    let mut memory = vec![in rt.alloc(); 0; cells(size).saturating_mul(3)]?;
+    let mut panel = ModulePanel::new(memory.as_mut_slice(), size.lines, size.columns);
+    what.run(rt, &mut panel)?;
+    Ok(memory)
 }
 
 // A panel under a window is as large as can be, and the window lies at its end.
@@ -57,24 +97,27 @@ fn at_the_end(size: Size) -> Rectangle {
     }
 }
 
-fn on_window<P: Panel>(
+// Does it on a panel of this kind and size.
+pub(crate) fn on_kind<T: OnPanel>(
     rt: &HostRuntime,
-    below: &mut P,
-    show: &Show,
-    bytes: &[u8],
+    kind: Kind,
+    size: Size,
+    what: &T,
 ) -> Result<(), Failure> {
-    let mut panel = Window::new(Lent::new(below), at_the_end(show.size));
-    show_on(rt, &mut panel, show.look, bytes)
-}
-
-fn on_window_list(rt: &HostRuntime, show: &Show, bytes: &[u8]) -> Result<(), Failure> {
-    let mut memory = vec![in rt.alloc(); ERASED; cells(MOST)]?;
-    let mut below = ListPanel::new(memory.as_mut_slice(), MOST.lines, MOST.columns);
-    on_window(rt, &mut below, show, bytes)
-}
-
-fn on_window_module(rt: &HostRuntime, show: &Show, bytes: &[u8]) -> Result<(), Failure> {
-    let mut memory = vec![in rt.alloc(); 0; cells(MOST).saturating_mul(3)]?;
-    let mut below = ModulePanel::new(memory.as_mut_slice(), MOST.lines, MOST.columns);
-    on_window(rt, &mut below, show, bytes)
+    let frame = at_the_end(size);
+    match kind {
+        Kind::List => {
+            let _ = on_list(rt, size, what)?;
+        }
+        Kind::Module => {
+            let _ = on_module(rt, size, what)?;
+        }
+        Kind::Window => {
+            let _ = on_list(rt, MOST, &InWindow { frame, what })?;
+        }
+        Kind::WindowModule => {
+            let _ = on_module(rt, MOST, &InWindow { frame, what })?;
+        }
+    }
+    Ok(())
 }

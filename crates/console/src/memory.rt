@@ -16,8 +16,9 @@ pub(crate) fn print_cells(rt: &HostRuntime, size: Size, cells: &[Cell]) -> Resul
         return Ok(());
     }
     println!(rt; "Memory: {count} cells, each CODE:RENDITION")?;
-    let mut element = 0usize;
-    for row in cells.chunks(row_length(size)) {
+    let length = row_length(size);
+    for (i, row) in cells.chunks(length).enumerate() {
+        let element = i.saturating_mul(length);
         print!(rt; "{element:>6} ")?;
         for cell in row {
             let code = cell.code;
@@ -25,7 +26,6 @@ pub(crate) fn print_cells(rt: &HostRuntime, size: Size, cells: &[Cell]) -> Resul
             print!(rt; " {code:02X}:{rendition}")?;
         }
         rt.println("")?;
-        element = element.saturating_add(row.len());
     }
     Ok(())
 }
@@ -61,14 +61,13 @@ fn print_every_other(
     first: u16,
     bytes: &[u8],
 ) -> Result<(), Failure> {
-    let mut line = first;
-    for row in bytes.chunks(row_length(size)) {
+    let lines = (first..=u16::MAX).step_by(2);
+    for (line, row) in lines.zip(bytes.chunks(row_length(size))) {
         print!(rt; "  line {line:>2} ")?;
         for byte in row {
             print!(rt; " {byte:02X}")?;
         }
         rt.println("")?;
-        line = line.saturating_add(2);
     }
     Ok(())
 }

@@ -1,5 +1,6 @@
 // Calls on a panel, each printed with its answer.
 use crate::call::Failure;
+use crate::shown::DirectionShown;
 use panel::{Cell, Direction, Panel, Rectangle, Size, shift};
 use refusal::Refusal;
 use std::fmt;
@@ -136,7 +137,7 @@ impl fmt::Display for PanelCall {
                 direction,
                 count,
             } => {
-                let name = direction_name(direction);
+                let way = DirectionShown(direction);
                 let Rectangle {
                     top,
                     left,
@@ -145,18 +146,9 @@ impl fmt::Display for PanelCall {
                 } = rectangle;
                 write!(
                     f,
-                    "Shift {name} by {count}, at {top},{left} a rectangle of {lines} by {columns}"
+                    "Shift {way} by {count}, at {top},{left} a rectangle of {lines} by {columns}"
                 )
             }
         }
-    }
-}
-
-fn direction_name(direction: Direction) -> &'static str {
-    match direction {
-        Direction::Up => "up",
-        Direction::Down => "down",
-        Direction::Left => "left",
-        Direction::Right => "right",
     }
 }

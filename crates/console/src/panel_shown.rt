@@ -1,21 +1,43 @@
 // The command `panel`: calls on a panel, the panel before and after them, and the memory behind it.
 use crate::call::Failure;
 use crate::frame::Look;
-use crate::kinds::Kind;
+use crate::kinds::{Kind, OnPanel};
 use crate::{frame, kinds, memory, panel_calls};
-use panel::{ERASED, Lent, ListPanel, ModulePanel, Panel, Rectangle, Size, Window};
+use panel::{Lent, Panel, Rectangle, Size, Window};
+
+// Calls on a panel, or on a window of it.
+#[derive(Clone, Copy)]
+struct Calls {
+    window: Option<Rectangle>,
+}
+
+impl OnPanel for Calls {
+    fn run<P: Panel>(&self, rt: &HostRuntime, panel: &mut P) -> Result<(), Failure> {
+        panel_calls::set_letters(panel)?;
+        match self.window {
+            None => show_calls(rt, panel),
+            Some(rectangle) => show_window(rt, panel, rectangle),
+        }
+    }
+}
 
 pub(crate) fn run(rt: &HostRuntime, kind: Kind, size: Size) -> Result<(), Failure> {
-    match kind {
-        Kind::List => on_list(rt, size, None),
-        Kind::Module => on_module(rt, size, None),
-        Kind::Window => {
+    let (below, window) = match kind {
+        Kind::List | Kind::Module => (size, None),
+        Kind::Window | Kind::WindowModule => {
             let below = below(size);
-            on_list(rt, below, Some(window_on(below, size)))
+            (below, Some(window_on(below, size)))
         }
-        Kind::WindowModule => {
-            let below = below(size);
-            on_module(rt, below, Some(window_on(below, size)))
+    };
+    let calls = Calls { window };
+    match kind {
+        Kind::List | Kind::Window => {
+            let cells = kinds::on_list(rt, below, &calls)?;
+            memory::print_cells(rt, below, cells.as_slice())
+        }
+        Kind::Module | Kind::WindowModule => {
+            let bytes = kinds::on_module(rt, below, &calls)?;
+            memory::print_planes(rt, below, bytes.as_slice())
         }
     }
 }
@@ -34,32 +56,6 @@ fn window_on(below: Size, size: Size) -> Rectangle {
         left: if size.columns < below.columns { 2 } else { 1 },
         lines: size.lines,
         columns: size.columns,
-    }
-}
-
-fn on_list(rt: &HostRuntime, size: Size, window: Option<Rectangle>) -> Result<(), Failure> {
-    let mut cells = vec![in rt.alloc(); ERASED; kinds::cells(size)]?;
-    let mut panel = ListPanel::new(cells.as_mut_slice(), size.lines, size.columns);
-    show(rt, &mut panel, window)?;
-    memory::print_cells(rt, size, cells.as_slice())
-}
-
-fn on_module(rt: &HostRuntime, size: Size, window: Option<Rectangle>) -> Result<(), Failure> {
-    let mut bytes = vec![in rt.alloc(); 0; kinds::cells(size).saturating_mul(3)]?;
-    let mut panel = ModulePanel::new(bytes.as_mut_slice(), size.lines, size.columns);
-    show(rt, &mut panel, window)?;
-    memory::print_planes(rt, size, bytes.as_slice())
-}
-
-fn show<P: Panel>(
-    rt: &HostRuntime,
-    panel: &mut P,
-    window: Option<Rectangle>,
-) -> Result<(), Failure> {
-    panel_calls::set_letters(panel)?;
-    match window {
-        None => show_calls(rt, panel),
-        Some(rectangle) => show_window(rt, panel, rectangle),
     }
 }
 

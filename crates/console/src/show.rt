@@ -2,7 +2,7 @@
 use crate::cable::Account;
 use crate::call::Failure;
 use crate::frame::Look;
-use crate::kinds::Kind;
+use crate::kinds::{Kind, OnPanel};
 use crate::{cable, frame, kinds};
 use page::page::Page;
 use panel::{Panel, Size};
@@ -19,25 +19,34 @@ pub struct Show {
 // How many bytes of a file come in one piece.
 const PIECE: usize = 7;
 
-pub(crate) fn run(rt: &HostRuntime, show: &Show) -> Result<(), Failure> {
-    match fs::read(rt, show.path.as_str()) {
-        Ok(bytes) => kinds::show_on_kind(rt, show, bytes.as_slice()),
-        Err(why) => Err(Failure::Unread(show.path.clone()?, why)),
+// What is delivered, and how the panel is shown then.
+#[derive(Clone, Copy)]
+struct Bytes<'a> {
+    bytes: &'a [u8],
+    look: Look,
+}
+
+impl OnPanel for Bytes<'_> {
+    fn run<P: Panel>(&self, rt: &HostRuntime, panel: &mut P) -> Result<(), Failure> {
+        let mut page = Page::new();
+        page.start(panel)?;
+        let mut account = Account::default();
+        for piece in self.bytes.chunks(PIECE) {
+            cable::send(&mut page, panel, &mut account, piece)?;
+        }
+        frame::print_panel(rt, panel, self.look)?;
+        frame::print_below(rt, &page, account)
     }
 }
 
-pub(crate) fn show_on<P: Panel>(
-    rt: &HostRuntime,
-    panel: &mut P,
-    look: Look,
-    bytes: &[u8],
-) -> Result<(), Failure> {
-    let mut page = Page::new();
-    page.start(panel)?;
-    let mut account = Account::new();
-    for piece in bytes.chunks(PIECE) {
-        cable::send(&mut page, panel, &mut account, piece)?;
-    }
-    frame::print_panel(rt, panel, look)?;
-    frame::print_below(rt, &page, account)
+pub(crate) fn run(rt: &HostRuntime, show: &Show) -> Result<(), Failure> {
+    let bytes = match fs::read(rt, show.path.as_str()) {
+        Ok(bytes) => bytes,
+        Err(why) => return Err(Failure::Unread(show.path.clone()?, why)),
+    };
+    let shown = Bytes {
+        bytes: bytes.as_slice(),
+        look: show.look,
+    };
+    kinds::on_kind(rt, show.kind, show.size, &shown)
 }

@@ -1,6 +1,8 @@
 // How standings, kinds and functions are shown.
 use crate::names;
 use crate::names::Name;
+use control::function::Report;
+use panel::Direction;
 use reader::function::{Function, Sequence};
 use reader::item::Kind;
 use reader::parameters::Parameters;
@@ -16,6 +18,12 @@ pub struct StandingShown(pub Standing);
 
 #[derive(Clone, Copy)]
 pub struct FunctionShown(pub Function);
+
+#[derive(Clone, Copy)]
+pub struct OwedShown(pub Option<Report>);
+
+#[derive(Clone, Copy)]
+pub struct DirectionShown(pub Direction);
 
 pub(crate) fn kind_name(kind: Kind) -> &'static str {
     match kind {
@@ -94,6 +102,27 @@ impl fmt::Display for FunctionShown {
             Function::Reset => f.write_str("RIS (reset to initial state)"),
             Function::Sequence(sequence) => show_call(sequence, f),
         }
+    }
+}
+
+impl fmt::Display for OwedShown {
+    fn fmt<W: fmt::Write>(&self, f: &mut fmt::Formatter<W>) -> fmt::Result {
+        f.write_str(match self.0 {
+            None => "nothing",
+            Some(Report::Status) => "the status",
+            Some(Report::Position) => "the position",
+        })
+    }
+}
+
+impl fmt::Display for DirectionShown {
+    fn fmt<W: fmt::Write>(&self, f: &mut fmt::Formatter<W>) -> fmt::Result {
+        f.write_str(match self.0 {
+            Direction::Up => "up",
+            Direction::Down => "down",
+            Direction::Left => "left",
+            Direction::Right => "right",
+        })
     }
 }
 

@@ -8,7 +8,7 @@ use crate::recorded::PARTS;
 use crate::{cable, consoles, frame, items, panel_shown};
 use page::page::Page;
 use panel::{ModulePanel, Panel, Size};
-use std::alloc::{AllocError, Global};
+use std::alloc::AllocError;
 
 const LINES: u16 = 6;
 
@@ -82,7 +82,7 @@ fn show_part<P: Panel>(
     name: &str,
     bytes: &[u8],
 ) -> Result<(), Failure> {
-    let mut account = Account::new();
+    let mut account = Account::default();
     for piece in bytes.chunks(PIECE) {
         cable::send(page, panel, &mut account, piece)?;
     }
@@ -94,22 +94,13 @@ fn show_part<P: Panel>(
 // The same bytes as the reader reads them.
 fn read_parts(rt: &HostRuntime) -> Result<(), Failure> {
     let mut pieces: Vec<&[u8]> = Vec::new(rt.alloc());
+    let mut all = Vec::new(rt.alloc());
     for (_, bytes) in PARTS {
-        if pieces.push(bytes).is_err() {
-            return Err(Failure::Memory);
-        }
+        pieces.push(bytes).map_err(AllocError::from)?;
+        all.extend_from_slice(bytes)?;
     }
-    let bytes = joined(rt.alloc(), pieces.as_slice())?;
     rt.println("")?;
-    items::print_bytes(rt, pieces.as_slice(), bytes.as_slice())
-}
-
-fn joined(heap: Global, pieces: &[&[u8]]) -> Result<Vec<u8>, AllocError> {
-    let mut bytes = Vec::new(heap);
-    for piece in pieces {
-        bytes.extend_from_slice(piece)?;
-    }
-    Ok(bytes)
+    items::print_bytes(rt, pieces.as_slice(), all.as_slice())
 }
 
 // A panel that is called without a page, small enough that its memory can be read.

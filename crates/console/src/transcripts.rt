@@ -3,7 +3,6 @@ ghost use Rattle.std.specs.Prelude.{◌≤◌};
 
 use crate::call::Failure;
 use reader::reader::Reader;
-use refusal::Refusal;
 use std::alloc::{AllocError, Global};
 use turns::turn::{Transcript, Turn};
 
@@ -34,7 +33,8 @@ fn add<'a>(
     bytes: &'a [u8],
 ) -> Result<(), AllocError> {
     let mut rest = bytes;
-    for _ in 0..bytes.len() {
+    // No piece is cut more often than it has bytes.
+    for _ in bytes {
         if rest.is_empty() {
             break;
         }
@@ -47,42 +47,15 @@ fn add<'a>(
     Ok(())
 }
 
-#[derive(Clone, Copy)]
-struct Tally {
-    accepted: usize,
-    refused: usize,
-    last: Option<Refusal>,
-}
-
-fn tally_of(answers: &[Result<usize, Refusal>]) -> Tally {
-    let mut tally = Tally {
-        accepted: 0,
-        refused: 0,
-        last: None,
-    };
-    for answer in answers {
-        match answer {
-            Ok(_) => tally.accepted = tally.accepted.saturating_add(1),
-            Err(refusal) => {
-                tally.refused = tally.refused.saturating_add(1);
-                tally.last = Some(*refusal);
-            }
-        }
-    }
-    tally
-}
-
 pub(crate) fn print(rt: &HostRuntime, name: &str, transcript: &Transcript) -> Result<(), Failure> {
-    let Tally {
-        accepted,
-        refused,
-        last,
-    } = tally_of(transcript.answers.as_slice());
+    let answers = transcript.answers.as_slice();
+    let accepted = answers.iter().filter(|answer| answer.is_ok()).count();
+    let refused = answers.len().saturating_sub(accepted);
     let written = transcript.written.len();
     println!(rt;
         "{name}: turns accepted {accepted}, refused {refused}; bytes of replies {written}"
     )?;
-    if let Some(refusal) = last {
+    if let Some(refusal) = answers.iter().rev().find_map(|answer| answer.err()) {
         println!(rt; "{name}: the last was refused {refusal}")?;
     }
     Ok(())

@@ -2,7 +2,7 @@
 use crate::call::{Call, Failure};
 use crate::frame::Look;
 use crate::kinds;
-use crate::kinds::Kind;
+use crate::kinds::{Kind, UnknownKind};
 use crate::show::Show;
 use panel::Size;
 use std::env;
@@ -28,10 +28,7 @@ pub(crate) fn called(rt: &HostRuntime) -> Result<Call, Failure> {
 }
 
 fn word(words: &mut Words, command: &'static str, what: &'static str) -> Result<String, Failure> {
-    match words.next() {
-        Some(word) => Ok(word),
-        None => Err(Failure::Missing(command, what)),
-    }
+    words.next().ok_or(Failure::Missing(command, what))
 }
 
 fn end(words: &mut Words, command: &'static str) -> Result<(), Failure> {
@@ -79,12 +76,9 @@ fn kind_and_size(words: &mut Words, command: &'static str) -> Result<(Kind, Size
 }
 
 fn kind(word: String) -> Result<Kind, Failure> {
-    match word.as_str() {
-        "list" => Ok(Kind::List),
-        "module" => Ok(Kind::Module),
-        "window" => Ok(Kind::Window),
-        "window-module" => Ok(Kind::WindowModule),
-        _ => Err(Failure::UnknownKind(word)),
+    match word.as_str().parse() {
+        Ok(kind) => Ok(kind),
+        Err(UnknownKind) => Err(Failure::UnknownKind(word)),
     }
 }
 

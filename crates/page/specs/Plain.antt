@@ -12,7 +12,7 @@ use Rattle.page.specs.declared.page.Page.{Page}
 use Rattle.page.specs.declared.state.State as code
 use Rattle.page.specs.declared.view.View.{View}
 use Rattle.page.specs.declared.view.Delivered.{Delivered}
-use Rattle.page.specs.Sheets.{Sheet, Placed, state_of, on_state, owing}
+use Rattle.page.specs.Sheets.{State, Sheet, Placed, state_of, on_state, owing}
 use Rattle.page.specs.Effects.{fresh, begun, run}
 
 -- whether it was started, and its state and cells
@@ -25,17 +25,13 @@ pub record OnPanel : Type 0 where
   pub plain : Plain
   pub beyond : Beyond
 
--- a page that was never started
-abbrev pub unstarted : Grid → Plain
-unstarted g = record { started = false; sheet = record { state = fresh 1 1; grid = g } }
-
--- a state, if there is one, beside a grid
-abbrev pub plain_of : Option code.State → Grid → Plain
-plain_of None g = unstarted g
-plain_of (Some s) g = record { started = true; sheet = record { state = state_of s; grid = g } }
+-- the state of a page: of one that is not started, that with which a page of one cell begins
+abbrev pub state_in : Option code.State → State
+state_in None = fresh 1 1
+state_in (Some s) = state_of s
 
 abbrev pub plain : Page → Grid → Plain
-plain p g = plain_of p.state g
+plain p g = record { started = is_some p.state; sheet = record { state = state_in p.state; grid = g } }
 
 abbrev pub on_panel : Page → Screen → OnPanel
 on_panel p s = record { plain = plain p s.grid; beyond = s.beyond }
@@ -92,6 +88,10 @@ started_page g = record { started = true; sheet = begun g }
 
 abbrev pub after_start : Plain → Plain
 after_start x = cond (startable x.sheet.grid) (started_page x.sheet.grid) x
+
+-- a page that was never started
+abbrev pub unstarted : Grid → Plain
+unstarted g = record { started = false; sheet = record { state = fresh 1 1; grid = g } }
 
 -- nothing is owed any more
 abbrev pub settled : Plain → Plain

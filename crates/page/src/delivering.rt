@@ -57,7 +57,7 @@ impl Page {
     }
 
     // Lets bytes act one by one, through the first that makes a reply owed, else all.
-    #[tactic(auto, using(crate::proofs::Parts::delivers_in_parts, crate::proofs::BytesAct::shows_items, crate::proofs::Deliveries::delivers))]
+    #[tactic(auto, using(crate::proofs::Parts::delivers_in_parts, crate::proofs::BytesAct::shows_items))]
     pub fn deliver<P: Panel>(&mut self, panel: &mut P, bytes: &[u8]) -> Result<Delivered, Refusal>
         ensures says { answer result ≡ deliver_answer (plain self.old (P.Panel.shows panel.old).grid) bytes.now }
         ensures after { on_panel self.new (P.Panel.shows panel.new) ≡ leaves (delivered bytes.now) (on_panel self.old (P.Panel.shows panel.old)) }

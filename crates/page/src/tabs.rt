@@ -89,6 +89,7 @@ impl State {
     }
 
     // Sets or clears the character stop at the active column.
+    #[tactic(auto, using(crate::proofs::Flags::take_set_in))]
     pub(crate) fn mark_column(&mut self, stop: bool)
         ensures { state_of self.new ≡ mark_column stop (state_of self.old) }
     {
@@ -96,6 +97,7 @@ impl State {
     }
 
     // Sets or clears the line stop at the active line.
+    #[tactic(auto, using(crate::proofs::Flags::take_set_in))]
     pub(crate) fn mark_line(&mut self, stop: bool)
         ensures { state_of self.new ≡ mark_line stop (state_of self.old) }
     {

@@ -1,5 +1,6 @@
 -- A reply that is sent, or refused.
 use Rattle.std.proofs.Common.{◌≡◌, ℕ, Bool, true, false, cond, leb, List, [], length, is_some, Some, None, Option, Result, sym, refl, ap, subst}
+use Rattle.std.specs.Option.{option_map}
 use Rattle.std.proofs.lemmas.Bool.{true≢false}
 use Rattle.refusal.specs.declared.Refusal.{Refusal}
 use Rattle.refusal.specs.declared.Layer.TheVariants as layer
@@ -7,8 +8,9 @@ use Rattle.refusal.specs.declared.Place.TheVariants.{Length}
 use Rattle.refusal.specs.Table.{Answer, accepted, refused, is_accepted, answer}
 use Rattle.panel.specs.Grids.{Grid}
 use Rattle.page.specs.declared.page.Page.{Page}
+use Rattle.page.specs.declared.state.State.{State}
 use Rattle.page.specs.declared.view.View.{View}
-use Rattle.page.specs.Plain.{Plain, plain, settled, view_of, page_refuses}
+use Rattle.page.specs.Plain.{Plain, plain, state_in, settled, view_of, view_of_state, page_refuses}
 use Rattle.picture.specs.Tape.{over}
 use Rattle.picture.specs.Pictures.{reply_bytes}
 use Rattle.picture.specs.Calls.{Outcome, Does, refuses, replies}
@@ -19,14 +21,15 @@ shown d None = d
 shown d (Some v) = v
 
 -- a page that can be viewed is what is seen of it
-viewed_if : (b : Bool) (v w : View) → Some v ≡ cond b (Some w) None → (b ≡ true) × (v ≡ w)
-viewed_if true v w e = (refl, ap (shown v) e)
-viewed_if false v w e = absurd (true≢false (ap is_some e))
+viewed_state : (o : Option State) (v : View) (g : Grid) → Some v ≡ option_map view_of_state o
+    → record { started = is_some o; sheet = record { state = state_in o; grid = g } } ≡ seen v g
+viewed_state None v g e = absurd (true≢false (ap is_some e))
+viewed_state (Some s) v g e =
+    let is : v ≡ view_of_state s = ap (shown v) e in
+    λ i. record { started = true; sheet = record { state = sym (ap state_seen is) i; grid = g } }
 
 pub viewed : (p : Page) (v : View) (g : Grid) → Some v ≡ view_of p → plain p g ≡ seen v g
-viewed p v g e =
-    let r = viewed_if p.started v _ e in
-    λ i. record { started = r.0 i; sheet = record { state = sym (ap state_seen r.1) i; grid = g } }
+viewed p v g e = viewed_state p.state v g e
 
 -- what a reply comes to, by whether one is owed and whether it fits
 abbrev by_ways : Plain → List ℕ → Bool → Bool → Outcome
