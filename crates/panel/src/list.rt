@@ -33,10 +33,10 @@ fn fill_run(cells: &mut [Cell], at: usize, count: usize)
 impl<'a> ListPanel<'a> {
     // A panel on memory that is lent. A size outside 1 to 64 lines by 1 to 132 columns, or memory that is too short for it,
     // makes a panel with no lines and no columns. No cell is changed.
-    pub fn new(cells: &'a mut [Cell], lines: u16, columns: u16) -> ListPanel<'a>
-        ensures { list_shows result ≡ listed cells.entry.ghost_name lines columns cells.old }
+    pub fn new(cells: &'a mut [Cell], size: Size) -> ListPanel<'a>
+        ensures { list_shows result ≡ listed cells.entry.ghost_name size.lines size.columns cells.old }
     {
-        let size = Size::on_memory(lines, columns, cells.len());
+        let size = size.on_memory(cells.len());
         ListPanel { cells, size }
     }
 
@@ -62,31 +62,21 @@ impl Panel for ListPanel<'_> {
         self.size.if_room(self.cells.len())
     }
 
-    fn cell(&self, line: u16, column: u16) -> Result<Cell, Refusal> {
-        match self.size().find(line, column) {
-            Some(at) => Ok(self.cells[at]),
-            None => Err(Refusal::OutsidePanel { line, column }),
-        }
+    fn cell(&self, at: Position) -> Result<Cell, Refusal> {
+        let k = self.size().find(at).ok_or(at.outside())?;
+        Ok(self.cells[k])
     }
 
-    fn set(&mut self, line: u16, column: u16, cell: Cell) -> Result<(), Refusal> {
-        match self.size().find(line, column) {
-            Some(at) => {
-                self.cells[at] = cell;
-                Ok(())
-            }
-            None => Err(Refusal::OutsidePanel { line, column }),
-        }
+    fn set(&mut self, at: Position, cell: Cell) -> Result<(), Refusal> {
+        let k = self.size().find(at).ok_or(at.outside())?;
+        self.cells[k] = cell;
+        Ok(())
     }
 
-    fn erase(&mut self, line: u16, column: u16, count: usize) -> Result<(), Refusal> {
-        match self.size().find_run(line, column, count) {
-            Some(at) => {
-                fill_run(self.cells, at, count);
-                Ok(())
-            }
-            None => Err(Refusal::OutsidePanel { line, column }),
-        }
+    fn erase(&mut self, from: Position, count: usize) -> Result<(), Refusal> {
+        let k = self.size().find_run(from, count).ok_or(from.outside())?;
+        fill_run(self.cells, k, count);
+        Ok(())
     }
 
     fn copy(&mut self, from: Position, to: Position, count: u16) -> Result<(), Refusal> {

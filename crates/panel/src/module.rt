@@ -51,10 +51,10 @@ fn scatter(bytes: &mut [u8], n: usize, at: usize, cell: Cell)
 impl<'a> ModulePanel<'a> {
     // A panel on memory that is lent. A size outside 1 to 64 lines by 1 to 132 columns, or memory that is too short for it,
     // makes a panel with no lines and no columns. No byte is changed.
-    pub fn new(bytes: &'a mut [u8], lines: u16, columns: u16) -> ModulePanel<'a>
-        ensures { module_shows result ≡ moduled bytes.entry.ghost_name lines columns bytes.old }
+    pub fn new(bytes: &'a mut [u8], size: Size) -> ModulePanel<'a>
+        ensures { module_shows result ≡ moduled bytes.entry.ghost_name size.lines size.columns bytes.old }
     {
-        let size = Size::on_memory(lines, columns, bytes.len() / 3);
+        let size = size.on_memory(bytes.len() / 3);
         ModulePanel { bytes, size }
     }
 
@@ -72,8 +72,7 @@ impl<'a> ModulePanel<'a> {
         ensures { module_shows self.new ≡ put_on (module_shows self.old) (line * (module_shows self.old).grid.columns + column) cell }
     {
         let at = self.stored(line, column);
-        let n = self.size.lines as usize * self.size.columns as usize;
-        scatter(self.bytes, n, at, cell);
+        scatter(self.bytes, self.size.count(), at, cell);
     }
 
     // Erases `count` cells of one line, from their index in reading order.
@@ -127,35 +126,30 @@ impl Panel for ModulePanel<'_> {
         self.size.if_room(self.bytes.len() / 3)
     }
 
-    fn cell(&self, line: u16, column: u16) -> Result<Cell, Refusal> {
-        if self.size().has(line, column) {
-            let at = self.stored(line as usize - 1, column as usize - 1);
-            let n = self.size.lines as usize * self.size.columns as usize;
-            Ok(gather(self.bytes, n, at))
+    fn cell(&self, at: Position) -> Result<Cell, Refusal> {
+        if self.size().has(at) {
+            let k = self.stored(at.line as usize - 1, at.column as usize - 1);
+            Ok(gather(self.bytes, self.size.count(), k))
         } else {
-            Err(Refusal::OutsidePanel { line, column })
+            Err(at.outside())
         }
     }
 
-    fn set(&mut self, line: u16, column: u16, cell: Cell) -> Result<(), Refusal> {
-        if self.size().has(line, column) {
-            self.put(line as usize - 1, column as usize - 1, cell);
+    fn set(&mut self, at: Position, cell: Cell) -> Result<(), Refusal> {
+        if self.size().has(at) {
+            self.put(at.line as usize - 1, at.column as usize - 1, cell);
             Ok(())
         } else {
-            Err(Refusal::OutsidePanel { line, column })
+            Err(at.outside())
         }
     }
 
-    fn erase(&mut self, line: u16, column: u16, count: usize) -> Result<(), Refusal> {
-        match self.size().find_run(line, column, count) {
-            Some(at) => {
-                let mut panel = self.take();
-                panel.erase_from(at, count);
-                *self = panel;
-                Ok(())
-            }
-            None => Err(Refusal::OutsidePanel { line, column }),
-        }
+    fn erase(&mut self, from: Position, count: usize) -> Result<(), Refusal> {
+        let k = self.size().find_run(from, count).ok_or(from.outside())?;
+        let mut panel = self.take();
+        panel.erase_from(k, count);
+        *self = panel;
+        Ok(())
     }
 
     fn copy(&mut self, from: Position, to: Position, count: u16) -> Result<(), Refusal> {

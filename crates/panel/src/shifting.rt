@@ -13,7 +13,7 @@ ghost use Rattle.panel.specs.Shifts.{Block, Line, Part, is_forward, line_shifted
 use crate::{Panel, Position, Rectangle};
 use refusal::Refusal;
 
-#[derive(Clone, Copy, PartialEq, Eq)]
+#[derive(Debug, Clone, Copy, PartialEq, Eq)]
 pub enum Direction {
     Up,
     Down,
@@ -30,11 +30,11 @@ fn copy_part<P: Panel>(panel: &mut P, from: Position, to: Position, count: u16)
 }
 
 // Erases `count` cells of a line.
-fn erase_part<P: Panel>(panel: &mut P, line: u16, column: u16, count: u16)
-    requires { (Part (P.Panel.shows panel.old).grid line column count) × (1 ≤ count) }
-    ensures { P.Panel.shows panel.new ≡ wipe_on (P.Panel.shows panel.old) (index (P.Panel.shows panel.old).grid line column) count }
+fn erase_part<P: Panel>(panel: &mut P, from: Position, count: u16)
+    requires { (Part (P.Panel.shows panel.old).grid from.line from.column count) × (1 ≤ count) }
+    ensures { P.Panel.shows panel.new ≡ wipe_on (P.Panel.shows panel.old) (index (P.Panel.shows panel.old).grid from.line from.column) count }
 {
-    let _ = panel.erase(line, column, count as usize);
+    let _ = panel.erase(from, count as usize);
 }
 
 // Moves the cells of one line of a rectangle up into it from the line `count` lines below.
@@ -53,7 +53,7 @@ fn line_up<P: Panel>(panel: &mut P, r: Rectangle, count: u16, line: u16)
         };
         copy_part(panel, from, to, r.columns);
     } else {
-        erase_part(panel, line, r.left, r.columns);
+        erase_part(panel, to, r.columns);
     }
 }
 
@@ -73,7 +73,7 @@ fn line_down<P: Panel>(panel: &mut P, r: Rectangle, count: u16, line: u16)
         };
         copy_part(panel, from, to, r.columns);
     } else {
-        erase_part(panel, line, r.left, r.columns);
+        erase_part(panel, to, r.columns);
     }
 }
 
@@ -82,20 +82,16 @@ fn line_left<P: Panel>(panel: &mut P, r: Rectangle, count: u16, line: u16)
     requires { Line (P.Panel.shows panel.old).grid r count line }
     ensures { P.Panel.shows panel.new ≡ with_grid (P.Panel.shows panel.old) (line_shifted r Direction.Left count line (P.Panel.shows panel.old).grid) }
 {
+    let first = Position {
+        line,
+        column: r.left,
+    };
     if count < r.columns {
         let kept = r.columns - count;
-        let from = Position {
-            line,
-            column: r.left + count,
-        };
-        let to = Position {
-            line,
-            column: r.left,
-        };
-        copy_part(panel, from, to, kept);
-        erase_part(panel, line, r.left + kept, count);
+        copy_part(panel, first.right_by(count), first, kept);
+        erase_part(panel, first.right_by(kept), count);
     } else {
-        erase_part(panel, line, r.left, r.columns);
+        erase_part(panel, first, r.columns);
     }
 }
 
@@ -104,20 +100,15 @@ fn line_right<P: Panel>(panel: &mut P, r: Rectangle, count: u16, line: u16)
     requires { Line (P.Panel.shows panel.old).grid r count line }
     ensures { P.Panel.shows panel.new ≡ with_grid (P.Panel.shows panel.old) (line_shifted r Direction.Right count line (P.Panel.shows panel.old).grid) }
 {
+    let first = Position {
+        line,
+        column: r.left,
+    };
     if count < r.columns {
-        let kept = r.columns - count;
-        let from = Position {
-            line,
-            column: r.left,
-        };
-        let to = Position {
-            line,
-            column: r.left + count,
-        };
-        copy_part(panel, from, to, kept);
-        erase_part(panel, line, r.left, count);
+        copy_part(panel, first, first.right_by(count), r.columns - count);
+        erase_part(panel, first, count);
     } else {
-        erase_part(panel, line, r.left, r.columns);
+        erase_part(panel, first, r.columns);
     }
 }
 
@@ -166,10 +157,7 @@ pub fn shift<P: Panel>(
     ensures after { P.Panel.shows panel.new ≡ shift_on (P.Panel.shows panel.old) r direction count }
 {
     if !r.is_inside(panel.size()) {
-        return Err(Refusal::OutsidePanel {
-            line: r.top,
-            column: r.left,
-        });
+        return Err(r.corner().outside());
     }
     if count > 0 {
         match direction {

@@ -1,5 +1,6 @@
 use Rattle.std.proofs.Common.{◌+◌, ◌-◌, ap, ◌∙◌, arith}
 use Rattle.panel.specs.Grids.{index}
+use Rattle.panel.specs.Copies.{copied}
 use Rattle.panel.specs.Screens.{with_grid, wipe_on}
 use Rattle.panel.proofs.Shifted.{left_moved, left_cleared}
 use Rattle.panel.proofs.shifting.line_left.Goals as goal
@@ -7,8 +8,12 @@ use Rattle.panel.proofs.shifting.line_left.Goals as goal
 pub returns-then-count-r : goal.returns-then-count-r
 returns-then-count-r g c =
     let s = g.P.Panel.shows c.args.panel.now in
+    let t = g.P.Panel.shows c.copy_part.new.panel in
+    let at = index s.grid c.args.line c.args.r.left in
     c.erase_part.ensures
+    ∙ ap (λ p. wipe_on t (index t.grid p.line p.column) c.args.count) c.right_by-then-count-r.ensures
     ∙ ap (λ z. wipe_on z (index z.grid c.args.line (c.args.r.left + (c.args.r.columns - c.args.count))) c.args.count) c.copy_part.ensures
+    ∙ ap (λ p. wipe_on (with_grid s (copied (index s.grid p.line p.column) at (c.args.r.columns - c.args.count) s.grid)) (index s.grid c.args.line (c.args.r.left + (c.args.r.columns - c.args.count))) c.args.count) c.right_by.ensures
     ∙ ap (with_grid s) (left_moved s.grid (g.P.Panel.sound c.args.panel.now) c.args.r c.args.count c.args.line c.requires (omega arith))
 
 pub returns-else-count-r : goal.returns-else-count-r
