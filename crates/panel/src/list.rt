@@ -1,33 +1,15 @@
 // The list panel: cells that are lent, line by line.
-ghost use Rattle.std.specs.Prelude.{◌≡◌, ℕ, ◌+◌, ◌-◌, ◌*◌, ◌<◌, ◌≤◌, length, replicate};
-ghost use Rattle.panel.specs.Grids.{erased, wiped};
+ghost use Rattle.std.specs.Prelude.{◌≡◌};
 ghost use Rattle.panel.specs.Listed.{listed, list_shows, list_sound};
 
-use crate::{Cell, ERASED, NO_SIZE, Panel, Position, Size};
+use crate::{Cell, ERASED, Panel, Position, Size};
 use refusal::Refusal;
-use std::mem::replace;
+use std::mem::take;
 
-#[derive(Drop)]
+#[derive(Drop, Default)]
 pub struct ListPanel<'a> {
     cells: &'a mut [Cell],
     size: Size,
-}
-
-// Erases each cell.
-fn fill(cells: &mut [Cell])
-    ensures { cells.new ≡ replicate (length cells.old) erased }
-{
-    for c in cells.iter_mut() {
-        *c = ERASED;
-    }
-}
-
-// Erases `count` cells from the index `at`, and no other.
-fn fill_run(cells: &mut [Cell], at: usize, count: usize)
-    requires { at + count ≤ length cells.old }
-    ensures { cells.new ≡ wiped cells.old at count }
-{
-    fill(&mut cells[at..at + count]);
 }
 
 impl<'a> ListPanel<'a> {
@@ -38,18 +20,6 @@ impl<'a> ListPanel<'a> {
     {
         let size = size.on_memory(cells.len());
         ListPanel { cells, size }
-    }
-
-    // The panel itself, for a while: what stays in its place has no lines. In a call's own hands nothing else reaches it, so
-    // the compiler need not look at its size again after each cell.
-    fn take(&mut self) -> ListPanel<'a>
-        ensures { result ≡ self.old }
-    {
-        let none = ListPanel {
-            cells: &mut [],
-            size: NO_SIZE,
-        };
-        replace(self, none)
     }
 }
 
@@ -75,12 +45,13 @@ impl Panel for ListPanel<'_> {
 
     fn erase(&mut self, from: Position, count: usize) -> Result<(), Refusal> {
         let k = self.size().find_run(from, count).ok_or(from.outside())?;
-        fill_run(self.cells, k, count);
+        self.cells[k..k + count].fill(ERASED);
         Ok(())
     }
 
     fn copy(&mut self, from: Position, to: Position, count: u16) -> Result<(), Refusal> {
-        let mut panel = self.take();
+        // In the call's own hands nothing else reaches the panel: its size need not be looked at again after each cell.
+        let mut panel = take(self);
         let answer = panel.copy_cells(from, to, count);
         *self = panel;
         answer

@@ -5,11 +5,11 @@ ghost use Rattle.panel.specs.Screens.{put_on, wipe_on};
 ghost use Rattle.panel.specs.Grids.{InLine, erased};
 ghost use Rattle.panel.specs.Moduled.{row_of, gathered, scattered, moduled, module_shows, module_sound};
 
-use crate::{Cell, ERASED, NO_SIZE, Panel, Position, Size};
+use crate::{Cell, ERASED, Panel, Position, Size};
 use refusal::Refusal;
-use std::mem::replace;
+use std::mem::take;
 
-#[derive(Drop)]
+#[derive(Drop, Default)]
 pub struct ModulePanel<'a> {
     bytes: &'a mut [u8],
     size: Size,
@@ -103,18 +103,6 @@ impl<'a> ModulePanel<'a> {
             left -= n;
         }
     }
-
-    // The panel itself, for a while: what stays in its place has no lines. In a call's own hands nothing else reaches it, so
-    // the compiler need not look at its size again after each cell.
-    fn take(&mut self) -> ModulePanel<'a>
-        ensures { result ≡ self.old }
-    {
-        let none = ModulePanel {
-            bytes: &mut [],
-            size: NO_SIZE,
-        };
-        replace(self, none)
-    }
 }
 
 impl Panel for ModulePanel<'_> {
@@ -146,14 +134,15 @@ impl Panel for ModulePanel<'_> {
 
     fn erase(&mut self, from: Position, count: usize) -> Result<(), Refusal> {
         let k = self.size().find_run(from, count).ok_or(from.outside())?;
-        let mut panel = self.take();
+        // As the list panel does for a copy, the call takes the panel into its own hands for a while.
+        let mut panel = take(self);
         panel.erase_from(k, count);
         *self = panel;
         Ok(())
     }
 
     fn copy(&mut self, from: Position, to: Position, count: u16) -> Result<(), Refusal> {
-        let mut panel = self.take();
+        let mut panel = take(self);
         let answer = panel.copy_cells(from, to, count);
         *self = panel;
         answer
