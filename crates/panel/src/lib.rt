@@ -22,6 +22,7 @@ use refusal::Refusal;
 mod borrowed;
 mod cell;
 mod clearing;
+mod lines;
 mod list;
 mod module;
 mod rectangle;

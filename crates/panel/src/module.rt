@@ -5,6 +5,7 @@ ghost use Rattle.panel.specs.Screens.{put_on, wipe_on};
 ghost use Rattle.panel.specs.Grids.{InLine, erased};
 ghost use Rattle.panel.specs.Moduled.{row_of, gathered, scattered, moduled, module_shows, module_sound};
 
+use crate::lines::Lines;
 use crate::{Cell, ERASED, Panel, Position, Size};
 use refusal::Refusal;
 use std::mem::take;
@@ -74,33 +75,23 @@ impl<'a> ModulePanel<'a> {
         let at = self.stored(line, column);
         scatter(self.bytes, self.size.count(), at, cell);
     }
+}
 
-    // Erases `count` cells of one line, from their index in reading order.
-    fn erase_in_line(&mut self, at: usize, count: usize)
-        requires { InLine (module_shows self.old).grid at count }
-        ensures { module_shows self.new ≡ wipe_on (module_shows self.old) at count }
-    {
-        let columns = self.size().columns as usize;
+impl Lines for ModulePanel<'_> {
+    ghost seen = { module_shows };
+
+    ghost seen_sound = { module_sound };
+
+    fn columns(&self) -> usize {
+        self.size().columns as usize
+    }
+
+    fn erase_in_line(&mut self, at: usize, count: usize) {
+        let columns = self.columns();
         let line = at / columns;
         let column = at % columns;
         for i in 0..count {
             self.put(line, column + i, ERASED);
-        }
-    }
-
-    // Erases `count` cells from an index in reading order, one line after another.
-    fn erase_from(&mut self, at: usize, count: usize)
-        requires { at + count ≤ (module_shows self.old).grid.lines * (module_shows self.old).grid.columns }
-        ensures { module_shows self.new ≡ wipe_on (module_shows self.old) at count }
-    {
-        let columns = self.size().columns as usize;
-        let mut i = at;
-        let mut left = count;
-        while left > 0 {
-            let n = left.min(columns - i % columns);
-            self.erase_in_line(i, n);
-            i += n;
-            left -= n;
         }
     }
 }

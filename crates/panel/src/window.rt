@@ -5,6 +5,7 @@ ghost use Rattle.panel.specs.Screens.{wipe_on};
 ghost use Rattle.panel.specs.Rectangles.{framed};
 ghost use Rattle.panel.specs.Windows.{windowed, windowed_sound, part_beneath};
 
+use crate::lines::Lines;
 use crate::{Cell, Panel, Position, Rectangle, Size};
 use refusal::Refusal;
 
@@ -61,12 +62,18 @@ impl<P: Panel> Window<P> {
             None
         }
     }
+}
 
-    // Erases `count` cells of one line of the window, from its index `at`.
-    fn erase_in_line(&mut self, at: usize, count: usize)
-        requires { InLine (windowed (P.Panel.shows self.old.below) self.old.frame).grid at count }
-        ensures { windowed (P.Panel.shows self.new.below) self.new.frame ≡ wipe_on (windowed (P.Panel.shows self.old.below) self.old.frame) at count }
-    {
+impl<P: Panel> Lines for Window<P> {
+    ghost seen = { λ w. windowed (P.Panel.shows w.below) w.frame };
+
+    ghost seen_sound = { λ w. windowed_sound (P.Panel.shows w.below) w.frame (P.Panel.sound w.below) };
+
+    fn columns(&self) -> usize {
+        self.shown().columns as usize
+    }
+
+    fn erase_in_line(&mut self, at: usize, count: usize) {
         let f = self.shown();
         let columns = f.columns as usize;
         let from = Position {
@@ -74,22 +81,6 @@ impl<P: Panel> Window<P> {
             column: f.left + (at % columns) as u16,
         };
         let _ = self.below.erase(from, count);
-    }
-
-    // Erases `count` cells from the window's index `at`, one line of the window after another.
-    fn erase_from(&mut self, at: usize, count: usize)
-        requires { at + count ≤ (windowed (P.Panel.shows self.old.below) self.old.frame).grid.lines * (windowed (P.Panel.shows self.old.below) self.old.frame).grid.columns }
-        ensures { windowed (P.Panel.shows self.new.below) self.new.frame ≡ wipe_on (windowed (P.Panel.shows self.old.below) self.old.frame) at count }
-    {
-        let columns = self.shown().columns as usize;
-        let mut i = at;
-        let mut left = count;
-        while left > 0 {
-            let n = left.min(columns - i % columns);
-            self.erase_in_line(i, n);
-            i += n;
-            left -= n;
-        }
     }
 }
 

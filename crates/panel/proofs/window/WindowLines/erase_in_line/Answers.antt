@@ -1,7 +1,7 @@
 use Rattle.std.proofs.Common.{◌+◌, ◌*◌, ◌%◌, ◌≤◌, ap, ◌∙◌, arith}
 use Rattle.panel.specs.Windows.{windowed}
 use Rattle.panel.proofs.Windowed.{windowed_erase, stands}
-use Rattle.panel.proofs.window.Window.erase_in_line.Goals as goal
+use Rattle.panel.proofs.window.WindowLines.erase_in_line.Goals as goal
 
 pub overflow_cast-from : goal.overflow_cast-from
 overflow_cast-from g c =
