@@ -33,12 +33,17 @@ impl Panel for ListPanel<'_> {
     }
 
     fn cell(&self, at: Position) -> Result<Cell, Refusal> {
-        let k = self.size().find(at).ok_or(at.outside())?;
+        // Not by `ok_or(..)?`, nor in `set`: shifts of a list panel then took half as long again.
+        let Some(k) = self.size().find(at) else {
+            return Err(at.outside());
+        };
         Ok(self.cells[k])
     }
 
     fn set(&mut self, at: Position, cell: Cell) -> Result<(), Refusal> {
-        let k = self.size().find(at).ok_or(at.outside())?;
+        let Some(k) = self.size().find(at) else {
+            return Err(at.outside());
+        };
         self.cells[k] = cell;
         Ok(())
     }
