@@ -1,6 +1,5 @@
 use Rattle.std.proofs.Common.{◌∙◌}
 use Rattle.panel.proofs.Places.{goes_on}
-use Rattle.panel.proofs.Places.{goes_on}
 use Rattle.panel.proofs.Windowed.{windowed_cell}
 use Rattle.panel.proofs.window.WindowPanel.cell.Goals as goal
 

@@ -1,7 +1,6 @@
 use Rattle.std.proofs.Common.{ap, ◌∙◌}
 use Rattle.panel.specs.Windows.{windowed}
 use Rattle.panel.proofs.Places.{goes_on}
-use Rattle.panel.proofs.Places.{goes_on}
 use Rattle.panel.proofs.Windowed.{windowed_done, windowed_set}
 use Rattle.panel.proofs.window.WindowPanel.set.Goals as goal
 
