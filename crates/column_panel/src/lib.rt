@@ -10,7 +10,7 @@ ghost use Rattle.std.specs.Prelude.{◌≡◌, ℕ, ◌+◌, ◌-◌, ◌*◌, �
 ghost use Rattle.panel.specs.Screens.{put_on, wipe_on};
 ghost use Rattle.column_panel.specs.Columned.{stored_at, columned, column_shows, column_sound};
 
-use panel::{Cell, ERASED, NO_SIZE, Panel, Size};
+use panel::{Cell, ERASED, Panel, Position, Size};
 use refusal::Refusal;
 
 #[derive(Drop)]
@@ -21,13 +21,10 @@ pub struct ColumnPanel<'a> {
 
 impl<'a> ColumnPanel<'a> {
     // A panel on memory that is lent. Memory too short for the size makes a panel with no lines and no columns.
-    pub fn new(cells: &'a mut [Cell], lines: u16, columns: u16) -> ColumnPanel<'a>
-        ensures { column_shows result ≡ columned cells.entry.ghost_name lines columns cells.old }
+    pub fn new(cells: &'a mut [Cell], size: Size) -> ColumnPanel<'a>
+        ensures { column_shows result ≡ columned cells.entry.ghost_name size.lines size.columns cells.old }
     {
-        ColumnPanel {
-            cells,
-            size: Size { lines, columns },
-        }
+        ColumnPanel { cells, size }
     }
 
     // Where the cell at an index in reading order is stored.
@@ -67,41 +64,24 @@ impl Panel for ColumnPanel<'_> {
     ghost sound = { column_sound };
 
     fn size(&self) -> Size {
-        if self.size.lines as usize * self.size.columns as usize <= self.cells.len() {
-            self.size
-        } else {
-            NO_SIZE
-        }
+        self.size.if_room(self.cells.len())
     }
 
-    fn cell(&self, line: u16, column: u16) -> Result<Cell, Refusal> {
-        match self.size().find(line, column) {
-            Some(k) => {
-                let at = self.stored(k);
-                Ok(self.cells[at])
-            }
-            None => Err(Refusal::OutsidePanel { line, column }),
-        }
+    fn cell(&self, at: Position) -> Result<Cell, Refusal> {
+        let k = self.size().find(at).ok_or(at.outside())?;
+        Ok(self.cells[self.stored(k)])
     }
 
-    fn set(&mut self, line: u16, column: u16, cell: Cell) -> Result<(), Refusal> {
-        match self.size().find(line, column) {
-            Some(k) => {
-                self.put(k, cell);
-                Ok(())
-            }
-            None => Err(Refusal::OutsidePanel { line, column }),
-        }
+    fn set(&mut self, at: Position, cell: Cell) -> Result<(), Refusal> {
+        let k = self.size().find(at).ok_or(at.outside())?;
+        self.put(k, cell);
+        Ok(())
     }
 
-    fn erase(&mut self, line: u16, column: u16, count: usize) -> Result<(), Refusal> {
-        match self.size().find_run(line, column, count) {
-            Some(k) => {
-                self.erase_from(k, count);
-                Ok(())
-            }
-            None => Err(Refusal::OutsidePanel { line, column }),
-        }
+    fn erase(&mut self, from: Position, count: usize) -> Result<(), Refusal> {
+        let k = self.size().find_run(from, count).ok_or(from.outside())?;
+        self.erase_from(k, count);
+        Ok(())
     }
 }
 

@@ -1,7 +1,7 @@
 -- Cells of a line copied below a window.
-use Rattle.std.proofs.Common.{◌≡◌, ℕ, ◌+◌, ◌-◌, ◌*◌, ◌%◌, ◌^◌, ◌<◌, ◌≤◌, Bool, true, false, cond, ◌&&◌, ltb, leb, get_or, is_some, Some, None, Option, sym, refl, ap, ◌∙◌, ⊎_elim, arith}
+use Rattle.std.proofs.Common.{◌≡◌, ℕ, ◌+◌, ◌-◌, ◌*◌, ◌%◌, ◌^◌, ◌<◌, ◌≤◌, true, false, ◌&&◌, ltb, leb, get_or, Some, None, sym, refl, ap, ◌∙◌, ⊎_elim, arith}
 use Rattle.std.proofs.lemmas.Nat.{mod-mul-add, mul-le}
-use Rattle.std.proofs.lemmas.Bool.{and_from, and_left, and_right, and_parts, le-leb, lt-ltb, leb-true, ltb-true, cond-true, cond-false, cases_Bool, both_ways, true≢false}
+use Rattle.std.proofs.lemmas.Bool.{and_from, and_left, and_right, and_parts, le-leb, lt-ltb, leb-true, ltb-true, cond-true, cond-false, cases_Bool, both_ways}
 use Rattle.panel.specs.declared.cell.Position.{Position}
 use Rattle.panel.specs.declared.rectangle.Rectangle.{Rectangle}
 use Rattle.panel.specs.Grids.{Grid, erased, within, index_in, index, outside, with_cells}
@@ -12,6 +12,7 @@ use Rattle.panel.specs.Windows.{under, part_beneath, windowed, through, seen, ma
 use Rattle.panel.proofs.Places.{Within, within_true, true_within, index_lt}
 use Rattle.panel.proofs.Seen.{OneToOne, get_or_seen, length_seen}
 use Rattle.panel.proofs.Replaced.{get_or_replaced, replaced_out, is_replaced, replaced_same}
+use Rattle.panel.proofs.Windowed.{found_if, lost_if}
 use Rattle.panel.proofs.Framed.{framed_fit, under_at, within_below, under_inj, under_lt, under_run, covers_under}
 
 -- an index in a run
@@ -169,18 +170,6 @@ module _ (s : Screen) (h : Sound s) (f : Rectangle) (fit : Fit s.grid.lines s.gr
       ∙ sym (cond-true _ _ _ ft ∙ cond-true _ _ _ ot)
 
 -- a part that was found below, or not
-found_if : (b : Bool) (a d : Position) → Some a ≡ cond b (Some d) None → (b ≡ true) × (a ≡ d)
-found_if true a d e = (refl, ap (or_else a) e)
-  where
-    or_else : Position → Option Position → Position
-    or_else z None = z
-    or_else z (Some x) = x
-found_if false a d e = absurd (true≢false (ap is_some e))
-
-lost_if : (b : Bool) (d : Position) → None ≡ cond b (Some d) None → b ≡ false
-lost_if true d e = absurd (true≢false (ap is_some (sym e)))
-lost_if false d e = refl
-
 -- where a part begins below, both numbers have 16 bits
 pub record Small (a d : ℕ) : Type 0 where
   pub line : a < 2 ^ 16

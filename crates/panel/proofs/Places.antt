@@ -1,7 +1,11 @@
 -- Lines and columns, and the index of each in reading order.
-use Rattle.std.proofs.Common.{◌≡◌, ℕ, zero, suc, ◌+◌, ◌-◌, ◌*◌, ◌<◌, ◌≤◌, Bool, true, false, cond, Some, None, sym, refl, ap, ◌∙◌, mul-zero, arith}
+use Rattle.std.proofs.Common.{◌≡◌, ℕ, zero, suc, ◌+◌, ◌-◌, ◌*◌, ◌<◌, ◌≤◌, Bool, true, false, cond, ◌&&◌, leb, Some, None, Option, Ok, Err, Result, sym, refl, ap, ◌∙◌, mul-zero, arith}
 use Rattle.std.proofs.lemmas.Nat.{mul-add-lt}
-use Rattle.std.proofs.lemmas.Bool.{and_parts, leb-true, le-leb, and_from, cond-true}
+use Rattle.std.proofs.lemmas.Bool.{and_parts, leb-true, le-leb, and_from}
+use Rattle.std.proofs.lemmas.Bool.Decides.{nat_tests}
+use Rattle.std.specs.Bool.{then_some}
+use Rattle.std.specs.Option.{ok_or}
+use Rattle.std.specs.Result.{result_ok, IsErrAnd}
 use Rattle.panel.specs.declared.size.Size.{Size}
 use Rattle.panel.specs.Grids.{Grid, size_of, within, index_in, index, on, run_on}
 use Rattle.panel.specs.Places.{located, run_located}
@@ -61,14 +65,36 @@ located_run g z line column count k p e =
     let w : index g line column + count ≤ g.lines * g.columns = leb-true _ _ (and_parts (on g line column) _ h.0).1 in
     record { test = h.0; is = v; low = omega arith }
 
--- a place that was found, and a run from there that ends within the size
-pub run_found : (z : Size) (line column count k : ℕ) → Some k ≡ located z line column → k + count ≤ z.lines * z.columns → Some k ≡ run_located z line column count
-run_found z line column count k e b =
-    let h = found (within z.lines z.columns line column) (index_in z.columns line column) k e in
-    let v = h.1 in
-    ap Some (sym v) ∙ sym (cond-true _ _ _ (and_from _ _ h.0 (le-leb _ _ (omega arith))))
-
+-- a place that was found is within the size
 pub found_low : (z : Size) (line column k : ℕ) → Some k ≡ located z line column → k < z.lines * z.columns
 found_low z line column k e =
     let h = found (within z.lines z.columns line column) (index_in z.columns line column) k e in
     rw (← h.1) (index_lt z.lines z.columns line column (within_true _ _ _ _ h.0))
+
+then_some_cond : (b : Bool) (k : ℕ) → then_some b k ≡ cond b (Some k) None
+then_some_cond true k = refl
+then_some_cond false k = refl
+
+-- and so is a run from there, if it ends within
+pub run_found : (z : Size) (line column count k : ℕ) → Some k ≡ located z line column → then_some (leb count (z.lines * z.columns - k)) k ≡ run_located z line column count
+run_found z line column count k e =
+    let h = found (within z.lines z.columns line column) (index_in z.columns line column) k e in
+    let v = h.1 in
+    let low = found_low z line column k e in
+    let n = z.lines * z.columns in
+    let t : leb count (n - k) ≡ leb (index_in z.columns line column + count) n = rw v (grind (arith, nat_tests)) in
+    ap (λ b. then_some b k) t ∙ then_some_cond _ k
+    ∙ ap (λ i. cond (leb (index_in z.columns line column + count) n) (Some i) None) (sym v)
+    ∙ ap (λ b. cond (b && leb (index_in z.columns line column + count) n) (Some (index_in z.columns line column)) None) (sym h.0)
+
+-- what was looked for where a call goes on after `?`, and where it stops
+pub goes_on : {A E : Type 0} (o : Option A) (r : Result A E) (k : A) → r ≡ Ok k → o ≡ result_ok r → Some k ≡ o
+goes_on o r k was part = sym (part ∙ ap result_ok was)
+
+pub stops : {A E : Type 0} (o : Option A) (r : Result A E) (e : E) → r ≡ Err e → o ≡ result_ok r → None ≡ o
+stops o r e was part = sym (part ∙ ap result_ok was)
+
+pub stopped_with : {A B E : Type 0} (o : Option B) (q : Result B E) (e d : E) (r : Result A E) → q ≡ Err e → q ≡ ok_or o d → IsErrAnd r (λ x. x ≡ e) → r ≡ Err d
+stopped_with None q e d (Ok x) was is h = absurd h
+stopped_with None q e d (Err x) was is h = let p : Err e ≡ Err d = sym was ∙ is in cc
+stopped_with (Some y) q e d r was is h = let p : Err e ≡ Ok y = sym was ∙ is in cc

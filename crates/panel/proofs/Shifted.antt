@@ -1,7 +1,7 @@
 -- A rectangle shifted line by line.
 use Rattle.std.proofs.Common.{◌≡◌, ℕ, ◌+◌, ◌-◌, ◌*◌, ◌/◌, ◌%◌, ◌<◌, ◌≤◌, Bool, true, false, cond, ◌&&◌, eqb, ltb, leb, ◌⊎◌, List, length, get_or, sym, refl, ap, ◌∙◌, inl, inr, ⊎_elim, arith}
 use Rattle.std.proofs.lemmas.Nat.{mul-le, div-mul-add, mod-mul-add, div-add-mod'}
-use Rattle.std.proofs.lemmas.Bool.{and_from, and_parts, and_left, and_right, le-leb, lt-leb, lt-ltb, le-ltb, leb-true, ltb-true, eqb-true, eq-eqb, ne_eqb, cond-true, cond-false, cases_Bool, cases_lt, cases_eq, both_ways, true≢false, false≢true}
+use Rattle.std.proofs.lemmas.Bool.{and_from, and_parts, and_left, and_right, le-leb, lt-leb, lt-ltb, le-ltb, leb-true, leb-false, ltb-true, ltb-false, eqb-true, eq-eqb, ne_eqb, cond-true, cond-false, cases_Bool, cases_lt, cases_eq, both_ways, true≢false, false≢true}
 use Rattle.std.proofs.lemmas.Bool.Decides.{nat_tests}
 use Rattle.panel.specs.declared.cell.Cell.{Cell}
 use Rattle.panel.specs.declared.rectangle.Rectangle.{Rectangle}
@@ -9,7 +9,7 @@ use Rattle.panel.specs.declared.shifting.Direction.{Direction}
 use Rattle.panel.specs.declared.shifting.Direction.TheVariants.{Up, Down, Left, Right}
 use Rattle.panel.specs.Grids.{Grid, Whole, erased, index, with_cells, replaced, wiped}
 use Rattle.panel.specs.Rectangles.{Fit, in_rectangle, covers}
-use Rattle.panel.specs.Shifts.{source, from_source, incoming, incoming_at, shifted, line_shifted, is_forward, Line, Part}
+use Rattle.panel.specs.Shifts.{source, from_source, incoming, incoming_at, shifted, line_shifted, is_forward, turn, Line, Part}
 use Rattle.panel.specs.Copies.{in_run, copy_of, copied}
 use Rattle.panel.proofs.Wiped.{length_wiped, get_or_wiped_in, get_or_wiped_out}
 use Rattle.panel.proofs.Replaced.{choice, length_replaced, get_or_replaced, replaced_in, replaced_out, is_replaced}
@@ -318,6 +318,61 @@ below_next top i l ne = grind (arith, nat_tests)
 
 pub above_next : (top i l : ℕ) → 0 < i → (l ≡ top + (i - 1) → ⊥) → leb (top + (i - 1)) l ≡ leb (top + i) l
 above_next top i l p ne = grind (arith, nat_tests)
+
+-- from the first line on, and from the last one on
+module _ (g : Grid) (h : Whole g) (r : Rectangle) (fit : Fit g.lines g.columns r) (n : ℕ) where
+  none_above : (d : Direction) → g ≡ done_lines g r d n (λ l. ltb l (r.top + 0))
+  none_above d = lines_none g h r fit d n (λ l. ltb l (r.top + 0)) (λ l k t. rectangle_above r l k (let q = ltb-true l (r.top + 0) t in omega arith))
+
+  none_below : (d : Direction) → g ≡ done_lines g r d n (λ l. leb (r.top + (r.lines - 0)) l)
+  none_below d = lines_none g h r fit d n (λ l. leb (r.top + (r.lines - 0)) l) (λ l k t. rectangle_below r l k (let q = leb-true (r.top + (r.lines - 0)) l t in omega arith))
+
+  all_above : (d : Direction) (i : ℕ) → r.lines ≤ i → done_lines g r d n (λ l. ltb l (r.top + i)) ≡ shifted r d n g
+  all_above d i m = lines_all g h r fit d n (λ l. ltb l (r.top + i)) (λ l k f. rectangle_below r l k (let q = ltb-false l (r.top + i) f in omega arith))
+
+  all_below : (d : Direction) (i : ℕ) → r.lines ≤ i → done_lines g r d n (λ l. leb (r.top + (r.lines - i)) l) ≡ shifted r d n g
+  all_below d i m = lines_all g h r fit d n (λ l. leb (r.top + (r.lines - i)) l) (λ l k f. rectangle_above r l k (let q = leb-false (r.top + (r.lines - i)) l f in omega arith))
+
+  next_above : (d : Direction) (i : ℕ) → is_forward d ≡ true →
+      line_shifted r d n (r.top + i) (done_lines g r d n (λ l. ltb l (r.top + i))) ≡ done_lines g r d n (λ l. ltb l (r.top + (i + 1)))
+  next_above d i t =
+      let line = r.top + i in
+      lines_next g h r fit d n (λ l. ltb l line) (λ l. ltb l (r.top + (i + 1))) line
+      (le-ltb line line (omega arith)) (lt-ltb line (r.top + (i + 1)) (omega arith)) (λ l ne. below_next r.top i l ne)
+      (λ k. le-ltb _ line (source_below d n line k t))
+
+  next_below : (d : Direction) (i : ℕ) → is_forward d ≡ false → i < r.lines →
+      line_shifted r d n (r.top + (r.lines - 1 - i)) (done_lines g r d n (λ l. leb (r.top + (r.lines - i)) l)) ≡ done_lines g r d n (λ l. leb (r.top + (r.lines - (i + 1))) l)
+  next_below d i t m =
+      let line = r.top + (r.lines - 1 - i) in
+      let up = r.top + (r.lines - i) in
+      lines_next g h r fit d n (λ l. leb up l) (λ l. leb (r.top + (r.lines - (i + 1))) l) line
+      (lt-leb up line (omega arith)) (le-leb (r.top + (r.lines - (i + 1))) line (omega arith))
+      (λ l ne. ap (λ z. leb (r.top + z) l) (omega arith) ∙ above_next r.top (r.lines - i) l (omega arith) (λ e. ne (omega arith)))
+      (λ k. lt-leb up (source d n line k).0 (let q = source_above d n line k t in omega arith))
+
+-- the lines that are shifted when i are
+abbrev pub turned : Rectangle → Direction → ℕ → ℕ → Bool
+turned r d i line = cond (is_forward d) (ltb line (r.top + i)) (leb (r.top + (r.lines - i)) line)
+
+pub turned_none : (g : Grid) (h : Whole g) (r : Rectangle) (fit : Fit g.lines g.columns r) (n : ℕ) (d : Direction) → g ≡ done_lines g r d n (turned r d 0)
+turned_none g h r fit n Up = none_above g h r fit n Up
+turned_none g h r fit n Left = none_above g h r fit n Left
+turned_none g h r fit n Down = none_below g h r fit n Down
+turned_none g h r fit n Right = none_below g h r fit n Right
+
+pub turned_all : (g : Grid) (h : Whole g) (r : Rectangle) (fit : Fit g.lines g.columns r) (n : ℕ) (d : Direction) (i : ℕ) → r.lines ≤ i → done_lines g r d n (turned r d i) ≡ shifted r d n g
+turned_all g h r fit n Up i l = all_above g h r fit n Up i l
+turned_all g h r fit n Left i l = all_above g h r fit n Left i l
+turned_all g h r fit n Down i l = all_below g h r fit n Down i l
+turned_all g h r fit n Right i l = all_below g h r fit n Right i l
+
+pub turned_next : (g : Grid) (h : Whole g) (r : Rectangle) (fit : Fit g.lines g.columns r) (n : ℕ) (d : Direction) (i : ℕ) → i < r.lines →
+    line_shifted r d n (turn r d i) (done_lines g r d n (turned r d i)) ≡ done_lines g r d n (turned r d (i + 1))
+turned_next g h r fit n Up i l = next_above g h r fit n Up i refl
+turned_next g h r fit n Left i l = next_above g h r fit n Left i refl
+turned_next g h r fit n Down i l = next_below g h r fit n Down i refl l
+turned_next g h r fit n Right i l = next_below g h r fit n Right i refl l
 
 -- a shift by none leaves all as it is
 pub shifted_none : (g : Grid) (r : Rectangle) (d : Direction) → Whole g → Fit g.lines g.columns r → g ≡ shifted r d 0 g

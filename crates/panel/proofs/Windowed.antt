@@ -1,13 +1,15 @@
 -- What a window shows after a call of the panel below.
-use Rattle.std.proofs.Common.{◌≡◌, ℕ, ◌+◌, ◌-◌, ◌*◌, ◌/◌, ◌%◌, ◌^◌, ◌<◌, ◌≤◌, Bool, true, false, cond, List, length, get_or, set, Some, None, Option, sym, refl, ap, ◌∙◌, arith}
-use Rattle.std.proofs.lemmas.Bool.{cond-true, and_from, le-leb}
+use Rattle.std.proofs.Common.{◌≡◌, ℕ, ◌+◌, ◌-◌, ◌*◌, ◌/◌, ◌%◌, ◌^◌, ◌<◌, ◌≤◌, Bool, true, false, cond, List, length, get_or, set, is_some, Some, None, Option, sym, refl, ap, ◌∙◌, arith}
+use Rattle.std.proofs.lemmas.Bool.{cond-true, and_from, and_parts, le-leb, true≢false}
 use Rattle.refusal.specs.Table.{accepted}
 use Rattle.panel.specs.declared.cell.Cell.{Cell}
+use Rattle.panel.specs.declared.cell.Position.{Position}
 use Rattle.panel.specs.declared.rectangle.Rectangle.{Rectangle}
 use Rattle.panel.specs.Grids.{Grid, erased, within, index_in, index, on, run_on, cell_answer, done_if, with_cells, wiped}
 use Rattle.panel.specs.Screens.{Screen, Sound, around, with_grid, set_on, erase_on, put_on, wipe_on}
 use Rattle.panel.specs.Rectangles.{Fit, framed, covers}
-use Rattle.panel.specs.Windows.{under, beneath, windowed, through, seen, masked}
+use Rattle.panel.specs.Copies.{part_within}
+use Rattle.panel.specs.Windows.{under, part_beneath, windowed, through, seen, masked}
 use Rattle.panel.proofs.Places.{Within, within_true, true_within, index_lt}
 use Rattle.panel.proofs.Seen.{get_or_seen, seen_set, seen_wiped}
 use Rattle.panel.proofs.Replaced.{replaced_under_set, replaced_under_wiped}
@@ -19,14 +21,22 @@ pub record Beneath (f : Rectangle) (line column l c : ℕ) : Type 0 where
   pub line_is : l ≡ f.top + (line - 1)
   pub column_is : c ≡ f.left + (column - 1)
 
-beneath_if : (b : Bool) (i j l c : ℕ) → ◌≡◌ {A = Option (ℕ × ℕ)} (Some (l, c)) (cond b (Some (i, j)) None) → (b ≡ true) × (l ≡ i) × (c ≡ j)
-beneath_if true i j l c e = let q : ◌≡◌ {A = Option (ℕ × ℕ)} (Some (l, c)) (Some (i, j)) = e in let p : ◌≡◌ {A = ℕ × ℕ} (l, c) (i, j) = cc in (refl, ap (λ z. z.0) p, ap (λ z. z.1) p)
-beneath_if false i j l c e = let q : ◌≡◌ {A = Option (ℕ × ℕ)} (Some (l, c)) None = e in let z : ◌≡◌ {A = ℕ} 0 1 = cc in absurd (omega arith)
+pub found_if : (b : Bool) (a d : Position) → Some a ≡ cond b (Some d) None → (b ≡ true) × (a ≡ d)
+found_if true a d e = (refl, ap (or_else a) e)
+  where
+    or_else : Position → Option Position → Position
+    or_else z None = z
+    or_else z (Some x) = x
+found_if false a d e = absurd (true≢false (ap is_some e))
 
-beneath_some : (f : Rectangle) (line column l c : ℕ) → Some (l, c) ≡ beneath f line column → Beneath f line column l c
-beneath_some f line column l c e =
-    let h = beneath_if (within f.lines f.columns line column) (f.top + (line - 1)) (f.left + (column - 1)) l c e in
-    record { test = h.0; line_is = h.1; column_is = h.2 }
+pub lost_if : (b : Bool) (d : Position) → None ≡ cond b (Some d) None → b ≡ false
+lost_if true d e = absurd (true≢false (ap is_some (sym e)))
+lost_if false d e = refl
+
+beneath_some : (f : Rectangle) (at p : Position) → Some p ≡ part_beneath f at 1 → Beneath f at.line at.column p.line p.column
+beneath_some f at p e =
+    let h = found_if (part_within f.lines f.columns at 1) p (record { line = f.top + (at.line - 1); column = f.left + (at.column - 1) }) e in
+    record { test = (and_parts (within f.lines f.columns at.line at.column) _ h.0).0; line_is = ap (λ z. z.line) h.1; column_is = ap (λ z. z.column) h.1 }
 
 -- a rectangle of a screen, by its cells and the cells around it
 abbrev window_of : Rectangle → Screen → List Cell → Grid → Screen
@@ -74,26 +84,27 @@ module _ (s : Screen) (h : Sound s) (f : Rectangle) (fit : Fit s.grid.lines s.gr
       ∙ ap (λ zs. window_of f s zs (masked f (with_cells s.grid ys))) e
       ∙ ap (window_of f s (set (seen u n xs) k x)) o
 
-module _ (s : Screen) (h : Sound s) (f : Rectangle) (line column l c : ℕ) (e : Some (l, c) ≡ beneath (framed s.grid.lines s.grid.columns f) line column) where
+-- a cell of a window
+module _ (s : Screen) (h : Sound s) (f : Rectangle) (at p : Position) (e : Some p ≡ part_beneath (framed s.grid.lines s.grid.columns f) at 1) where
   abbrev F : Rectangle
   F = framed s.grid.lines s.grid.columns f
 
   fit : Fit s.grid.lines s.grid.columns F
   fit = framed_fit s.grid.lines s.grid.columns f
 
-  b : Beneath F line column l c
-  b = beneath_some F line column l c e
+  b : Beneath F at.line at.column p.line p.column
+  b = beneath_some F at p e
 
-  pub windowed_cell : cell_answer s.grid l c ≡ cell_answer (windowed s f).grid line column
-  windowed_cell = through_cell s h F fit line column l c b
+  pub windowed_cell : cell_answer s.grid p.line p.column ≡ cell_answer (windowed s f).grid at.line at.column
+  windowed_cell = through_cell s h F fit at.line at.column p.line p.column b
 
-  pub windowed_done : done_if (on s.grid l c) l c ≡ done_if (on (windowed s f).grid line column) line column
-  windowed_done = through_done s h F fit line column l c b
+  pub windowed_done : done_if (on s.grid p.line p.column) p.line p.column ≡ done_if (on (windowed s f).grid at.line at.column) at.line at.column
+  windowed_done = through_done s h F fit at.line at.column p.line p.column b
 
-  pub windowed_set : (x : Cell) → windowed (set_on s l c x) f ≡ set_on (windowed s f) line column x
+  pub windowed_set : (x : Cell) → windowed (set_on s p.line p.column x) f ≡ set_on (windowed s f) at.line at.column x
   windowed_set x =
-      ap (λ z. windowed (with_grid s z) f) (cond-true _ _ _ (below_on s h F fit line column l c b))
-      ∙ through_set s h F fit line column l c b x
+      ap (λ z. windowed (with_grid s z) f) (cond-true _ _ _ (below_on s h F fit at.line at.column p.line p.column b))
+      ∙ through_set s h F fit at.line at.column p.line p.column b x
       ∙ ap (with_grid (windowed s f)) (sym (cond-true _ _ _ b.test))
 
 -- a run of cells in one line of the window, from its index i

@@ -58,6 +58,10 @@ is_forward Down = false
 is_forward Left = true
 is_forward Right = false
 
+-- the line of a rectangle that is shifted after i others
+abbrev pub turn : Rectangle → Direction → ℕ → ℕ
+turn r direction i = cond (is_forward direction) (r.top + i) (r.top + (r.lines - 1 - i))
+
 -- a rectangle that is to be shifted
 pub record Block (g : Grid) (r : Rectangle) (count : ℕ) : Type 0 where
   pub fit : Fit g.lines g.columns r

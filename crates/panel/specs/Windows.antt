@@ -7,14 +7,10 @@ use Rattle.std.proofs.lemmas.Bool.{and_parts, leb-true}
 use Rattle.panel.specs.declared.cell.Cell.{Cell}
 use Rattle.panel.specs.declared.cell.Position.{Position}
 use Rattle.panel.specs.declared.rectangle.Rectangle.{Rectangle}
-use Rattle.panel.specs.Grids.{Grid, erased, within, index_in, replaced}
+use Rattle.panel.specs.Grids.{Grid, erased, index_in, replaced}
 use Rattle.panel.specs.Screens.{Screen, Sound, around}
 use Rattle.panel.specs.Copies.{part_within}
 use Rattle.panel.specs.Rectangles.{part_of, inside, all_of, framed, covers}
-
--- the line and column below of a line and column of the window
-abbrev pub beneath : Rectangle → ℕ → ℕ → Option (ℕ × ℕ)
-beneath r line column = cond (within r.lines r.columns line column) (Some (r.top + (line - 1), r.left + (column - 1))) None
 
 -- where some cells of a line of the window begin below
 abbrev pub part_beneath : Rectangle → Position → ℕ → Option Position

@@ -28,16 +28,16 @@ impl<P: Panel> Panel for Lent<'_, P> {
         self.below.size()
     }
 
-    fn cell(&self, line: u16, column: u16) -> Result<Cell, Refusal> {
-        self.below.cell(line, column)
+    fn cell(&self, at: Position) -> Result<Cell, Refusal> {
+        self.below.cell(at)
     }
 
-    fn set(&mut self, line: u16, column: u16, cell: Cell) -> Result<(), Refusal> {
-        self.below.set(line, column, cell)
+    fn set(&mut self, at: Position, cell: Cell) -> Result<(), Refusal> {
+        self.below.set(at, cell)
     }
 
-    fn erase(&mut self, line: u16, column: u16, count: usize) -> Result<(), Refusal> {
-        self.below.erase(line, column, count)
+    fn erase(&mut self, from: Position, count: usize) -> Result<(), Refusal> {
+        self.below.erase(from, count)
     }
 
     fn copy(&mut self, from: Position, to: Position, count: u16) -> Result<(), Refusal> {

@@ -2,29 +2,30 @@
 ghost use Rattle.std.specs.Prelude.{◌≡◌};
 ghost use Rattle.panel.specs.Clears.{clear_on, cells_cleared, bytes_cleared};
 
-use crate::{Cell, ListPanel, ModulePanel, Panel};
+use crate::{Cell, ListPanel, ModulePanel, Panel, Position, Size};
 
 // Erases every cell.
 pub fn clear<P: Panel>(panel: &mut P)
     ensures { P.Panel.shows panel.new ≡ clear_on (P.Panel.shows panel.old) }
 {
     let size = panel.size();
-    let _ = panel.erase(1, 1, size.lines as usize * size.columns as usize);
+    let first = Position { line: 1, column: 1 };
+    let _ = panel.erase(first, size.count());
 }
 
 // Erases the cells of a list panel of this size on the memory given. Nothing past them is changed, and nothing at all if the
 // size or the memory does not do.
-pub fn clear_cells(cells: &mut [Cell], lines: u16, columns: u16)
-    ensures { cells.new ≡ cells_cleared lines columns cells.old }
+pub fn clear_cells(cells: &mut [Cell], size: Size)
+    ensures { cells.new ≡ cells_cleared size.lines size.columns cells.old }
 {
-    let mut panel = ListPanel::new(cells, lines, columns);
+    let mut panel = ListPanel::new(cells, size);
     clear(&mut panel);
 }
 
 // The same of a module panel.
-pub fn clear_bytes(bytes: &mut [u8], lines: u16, columns: u16)
-    ensures { bytes.new ≡ bytes_cleared lines columns bytes.old }
+pub fn clear_bytes(bytes: &mut [u8], size: Size)
+    ensures { bytes.new ≡ bytes_cleared size.lines size.columns bytes.old }
 {
-    let mut panel = ModulePanel::new(bytes, lines, columns);
+    let mut panel = ModulePanel::new(bytes, size);
     clear(&mut panel);
 }

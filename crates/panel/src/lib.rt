@@ -13,7 +13,6 @@
 
 ghost use Rattle.std.specs.Prelude.{◌≡◌};
 ghost use Rattle.refusal.specs.Table.{answer};
-ghost use Rattle.refusal.specs.declared.Refusal.TheVariants.{OutsidePanel};
 ghost use Rattle.panel.specs.Grids.{size_of, cell_answer, done_if, on, run_on};
 ghost use Rattle.panel.specs.Screens.{Screen, Sound, set_on, erase_on};
 ghost use Rattle.panel.specs.Copies.{copy_answer, copy_on};
@@ -23,6 +22,7 @@ use refusal::Refusal;
 mod borrowed;
 mod cell;
 mod clearing;
+mod lines;
 mod list;
 mod module;
 mod rectangle;
@@ -40,16 +40,6 @@ pub use shifting::{Direction, shift};
 pub use size::{NO_SIZE, Size};
 pub use window::Window;
 
-// The refusal of a call that names a cell off the panel.
-pub(crate) fn outside(at: Position) -> Refusal
-    ensures { result ≡ OutsidePanel at.line at.column }
-{
-    Refusal::OutsidePanel {
-        line: at.line,
-        column: at.column,
-    }
-}
-
 pub trait Panel {
     // The cells, and what lies beyond them.
     ghost shows: { Self → Screen };
@@ -62,18 +52,18 @@ pub trait Panel {
         ensures { result ≡ size_of (shows self.now).grid };
 
     // The cell at a line and column.
-    fn cell(&self, line: u16, column: u16) -> Result<Cell, Refusal>
-        ensures { answer result ≡ cell_answer (shows self.now).grid line column };
+    fn cell(&self, at: Position) -> Result<Cell, Refusal>
+        ensures { answer result ≡ cell_answer (shows self.now).grid at.line at.column };
 
     // Puts a cell at a line and column.
-    fn set(&mut self, line: u16, column: u16, cell: Cell) -> Result<(), Refusal>
-        ensures says { answer result ≡ done_if (on (shows self.old).grid line column) line column }
-        ensures after { shows self.new ≡ set_on (shows self.old) line column cell };
+    fn set(&mut self, at: Position, cell: Cell) -> Result<(), Refusal>
+        ensures says { answer result ≡ done_if (on (shows self.old).grid at.line at.column) at.line at.column }
+        ensures after { shows self.new ≡ set_on (shows self.old) at.line at.column cell };
 
     // Erases `count` cells in reading order, from a line and column.
-    fn erase(&mut self, line: u16, column: u16, count: usize) -> Result<(), Refusal>
-        ensures says { answer result ≡ done_if (run_on (shows self.old).grid line column count) line column }
-        ensures after { shows self.new ≡ erase_on (shows self.old) line column count };
+    fn erase(&mut self, from: Position, count: usize) -> Result<(), Refusal>
+        ensures says { answer result ≡ done_if (run_on (shows self.old).grid from.line from.column count) from.line from.column }
+        ensures after { shows self.new ≡ erase_on (shows self.old) from.line from.column count };
 
     // Copies `count` cells of a line to a place in this or another line, as if all were read before one is written.
     // A maker need not write it: it is done by the calls above. One that knows a shorter way to its cells may.
@@ -91,26 +81,26 @@ pub trait Panel {
     {
         let size = self.size();
         if !size.has_part(from, count) {
-            return Err(outside(from));
+            return Err(from.outside());
         }
         if !size.has_part(to, count) {
-            return Err(outside(to));
+            return Err(to.outside());
         }
         if from.line != to.line || to.column <= from.column {
             for i in 0..count {
-                let Ok(cell) = self.cell(from.line, from.column + i) else {
+                let Ok(cell) = self.cell(from.right_by(i)) else {
                     unreachable()
                 };
-                let Ok(()) = self.set(to.line, to.column + i, cell) else {
+                let Ok(()) = self.set(to.right_by(i), cell) else {
                     unreachable()
                 };
             }
         } else {
             for i in (0..count).rev() {
-                let Ok(cell) = self.cell(from.line, from.column + i) else {
+                let Ok(cell) = self.cell(from.right_by(i)) else {
                     unreachable()
                 };
-                let Ok(()) = self.set(to.line, to.column + i, cell) else {
+                let Ok(()) = self.set(to.right_by(i), cell) else {
                     unreachable()
                 };
             }

@@ -1,55 +1,25 @@
 // The list panel: cells that are lent, line by line.
-ghost use Rattle.std.specs.Prelude.{◌≡◌, ℕ, ◌+◌, ◌-◌, ◌*◌, ◌<◌, ◌≤◌, length, replicate};
-ghost use Rattle.panel.specs.Grids.{erased, wiped};
+ghost use Rattle.std.specs.Prelude.{◌≡◌};
 ghost use Rattle.panel.specs.Listed.{listed, list_shows, list_sound};
 
-use crate::{Cell, ERASED, NO_SIZE, Panel, Position, Size};
+use crate::{Cell, ERASED, Panel, Position, Size};
 use refusal::Refusal;
-use std::mem::replace;
+use std::mem::take;
 
-#[derive(Drop)]
+#[derive(Drop, Default)]
 pub struct ListPanel<'a> {
     cells: &'a mut [Cell],
     size: Size,
 }
 
-// Erases each cell.
-fn fill(cells: &mut [Cell])
-    ensures { cells.new ≡ replicate (length cells.old) erased }
-{
-    for c in cells.iter_mut() {
-        *c = ERASED;
-    }
-}
-
-// Erases `count` cells from the index `at`, and no other.
-fn fill_run(cells: &mut [Cell], at: usize, count: usize)
-    requires { at + count ≤ length cells.old }
-    ensures { cells.new ≡ wiped cells.old at count }
-{
-    fill(&mut cells[at..at + count]);
-}
-
 impl<'a> ListPanel<'a> {
     // A panel on memory that is lent. A size outside 1 to 64 lines by 1 to 132 columns, or memory that is too short for it,
     // makes a panel with no lines and no columns. No cell is changed.
-    pub fn new(cells: &'a mut [Cell], lines: u16, columns: u16) -> ListPanel<'a>
-        ensures { list_shows result ≡ listed cells.entry.ghost_name lines columns cells.old }
+    pub fn new(cells: &'a mut [Cell], size: Size) -> ListPanel<'a>
+        ensures { list_shows result ≡ listed cells.entry.ghost_name size.lines size.columns cells.old }
     {
-        let size = Size::on_memory(lines, columns, cells.len());
+        let size = size.on_memory(cells.len());
         ListPanel { cells, size }
-    }
-
-    // The panel itself, for a while: what stays in its place has no lines. In a call's own hands nothing else reaches it, so
-    // the compiler need not look at its size again after each cell.
-    fn take(&mut self) -> ListPanel<'a>
-        ensures { result ≡ self.old }
-    {
-        let none = ListPanel {
-            cells: &mut [],
-            size: NO_SIZE,
-        };
-        replace(self, none)
     }
 }
 
@@ -62,35 +32,31 @@ impl Panel for ListPanel<'_> {
         self.size.if_room(self.cells.len())
     }
 
-    fn cell(&self, line: u16, column: u16) -> Result<Cell, Refusal> {
-        match self.size().find(line, column) {
-            Some(at) => Ok(self.cells[at]),
-            None => Err(Refusal::OutsidePanel { line, column }),
-        }
+    fn cell(&self, at: Position) -> Result<Cell, Refusal> {
+        // Not by `ok_or(..)?`, nor in `set`: shifts of a list panel then took half as long again.
+        let Some(k) = self.size().find(at) else {
+            return Err(at.outside());
+        };
+        Ok(self.cells[k])
     }
 
-    fn set(&mut self, line: u16, column: u16, cell: Cell) -> Result<(), Refusal> {
-        match self.size().find(line, column) {
-            Some(at) => {
-                self.cells[at] = cell;
-                Ok(())
-            }
-            None => Err(Refusal::OutsidePanel { line, column }),
-        }
+    fn set(&mut self, at: Position, cell: Cell) -> Result<(), Refusal> {
+        let Some(k) = self.size().find(at) else {
+            return Err(at.outside());
+        };
+        self.cells[k] = cell;
+        Ok(())
     }
 
-    fn erase(&mut self, line: u16, column: u16, count: usize) -> Result<(), Refusal> {
-        match self.size().find_run(line, column, count) {
-            Some(at) => {
-                fill_run(self.cells, at, count);
-                Ok(())
-            }
-            None => Err(Refusal::OutsidePanel { line, column }),
-        }
+    fn erase(&mut self, from: Position, count: usize) -> Result<(), Refusal> {
+        let k = self.size().find_run(from, count).ok_or(from.outside())?;
+        self.cells[k..k + count].fill(ERASED);
+        Ok(())
     }
 
     fn copy(&mut self, from: Position, to: Position, count: u16) -> Result<(), Refusal> {
-        let mut panel = self.take();
+        // In the call's own hands nothing else reaches the panel: its size need not be looked at again after each cell.
+        let mut panel = take(self);
         let answer = panel.copy_cells(from, to, count);
         *self = panel;
         answer

@@ -5,11 +5,12 @@ ghost use Rattle.panel.specs.Screens.{put_on, wipe_on};
 ghost use Rattle.panel.specs.Grids.{InLine, erased};
 ghost use Rattle.panel.specs.Moduled.{row_of, gathered, scattered, moduled, module_shows, module_sound};
 
-use crate::{Cell, ERASED, NO_SIZE, Panel, Position, Size};
+use crate::lines::Lines;
+use crate::{Cell, ERASED, Panel, Position, Size};
 use refusal::Refusal;
-use std::mem::replace;
+use std::mem::take;
 
-#[derive(Drop)]
+#[derive(Drop, Default)]
 pub struct ModulePanel<'a> {
     bytes: &'a mut [u8],
     size: Size,
@@ -51,10 +52,10 @@ fn scatter(bytes: &mut [u8], n: usize, at: usize, cell: Cell)
 impl<'a> ModulePanel<'a> {
     // A panel on memory that is lent. A size outside 1 to 64 lines by 1 to 132 columns, or memory that is too short for it,
     // makes a panel with no lines and no columns. No byte is changed.
-    pub fn new(bytes: &'a mut [u8], lines: u16, columns: u16) -> ModulePanel<'a>
-        ensures { module_shows result ≡ moduled bytes.entry.ghost_name lines columns bytes.old }
+    pub fn new(bytes: &'a mut [u8], size: Size) -> ModulePanel<'a>
+        ensures { module_shows result ≡ moduled bytes.entry.ghost_name size.lines size.columns bytes.old }
     {
-        let size = Size::on_memory(lines, columns, bytes.len() / 3);
+        let size = size.on_memory(bytes.len() / 3);
         ModulePanel { bytes, size }
     }
 
@@ -72,49 +73,26 @@ impl<'a> ModulePanel<'a> {
         ensures { module_shows self.new ≡ put_on (module_shows self.old) (line * (module_shows self.old).grid.columns + column) cell }
     {
         let at = self.stored(line, column);
-        let n = self.size.lines as usize * self.size.columns as usize;
-        scatter(self.bytes, n, at, cell);
+        scatter(self.bytes, self.size.count(), at, cell);
+    }
+}
+
+impl Lines for ModulePanel<'_> {
+    ghost seen = { module_shows };
+
+    ghost seen_sound = { module_sound };
+
+    fn columns(&self) -> usize {
+        self.size().columns as usize
     }
 
-    // Erases `count` cells of one line, from their index in reading order.
-    fn erase_in_line(&mut self, at: usize, count: usize)
-        requires { InLine (module_shows self.old).grid at count }
-        ensures { module_shows self.new ≡ wipe_on (module_shows self.old) at count }
-    {
-        let columns = self.size().columns as usize;
+    fn erase_in_line(&mut self, at: usize, count: usize) {
+        let columns = self.columns();
         let line = at / columns;
         let column = at % columns;
         for i in 0..count {
             self.put(line, column + i, ERASED);
         }
-    }
-
-    // Erases `count` cells from an index in reading order, one line after another.
-    fn erase_from(&mut self, at: usize, count: usize)
-        requires { at + count ≤ (module_shows self.old).grid.lines * (module_shows self.old).grid.columns }
-        ensures { module_shows self.new ≡ wipe_on (module_shows self.old) at count }
-    {
-        let columns = self.size().columns as usize;
-        let mut i = at;
-        let mut left = count;
-        while left > 0 {
-            let n = left.min(columns - i % columns);
-            self.erase_in_line(i, n);
-            i += n;
-            left -= n;
-        }
-    }
-
-    // The panel itself, for a while: what stays in its place has no lines. In a call's own hands nothing else reaches it, so
-    // the compiler need not look at its size again after each cell.
-    fn take(&mut self) -> ModulePanel<'a>
-        ensures { result ≡ self.old }
-    {
-        let none = ModulePanel {
-            bytes: &mut [],
-            size: NO_SIZE,
-        };
-        replace(self, none)
     }
 }
 
@@ -127,39 +105,35 @@ impl Panel for ModulePanel<'_> {
         self.size.if_room(self.bytes.len() / 3)
     }
 
-    fn cell(&self, line: u16, column: u16) -> Result<Cell, Refusal> {
-        if self.size().has(line, column) {
-            let at = self.stored(line as usize - 1, column as usize - 1);
-            let n = self.size.lines as usize * self.size.columns as usize;
-            Ok(gather(self.bytes, n, at))
+    fn cell(&self, at: Position) -> Result<Cell, Refusal> {
+        if self.size().has(at) {
+            let k = self.stored(at.line as usize - 1, at.column as usize - 1);
+            Ok(gather(self.bytes, self.size.count(), k))
         } else {
-            Err(Refusal::OutsidePanel { line, column })
+            Err(at.outside())
         }
     }
 
-    fn set(&mut self, line: u16, column: u16, cell: Cell) -> Result<(), Refusal> {
-        if self.size().has(line, column) {
-            self.put(line as usize - 1, column as usize - 1, cell);
+    fn set(&mut self, at: Position, cell: Cell) -> Result<(), Refusal> {
+        if self.size().has(at) {
+            self.put(at.line as usize - 1, at.column as usize - 1, cell);
             Ok(())
         } else {
-            Err(Refusal::OutsidePanel { line, column })
+            Err(at.outside())
         }
     }
 
-    fn erase(&mut self, line: u16, column: u16, count: usize) -> Result<(), Refusal> {
-        match self.size().find_run(line, column, count) {
-            Some(at) => {
-                let mut panel = self.take();
-                panel.erase_from(at, count);
-                *self = panel;
-                Ok(())
-            }
-            None => Err(Refusal::OutsidePanel { line, column }),
-        }
+    fn erase(&mut self, from: Position, count: usize) -> Result<(), Refusal> {
+        let k = self.size().find_run(from, count).ok_or(from.outside())?;
+        // As the list panel does for a copy, the call takes the panel into its own hands for a while.
+        let mut panel = take(self);
+        panel.erase_from(k, count);
+        *self = panel;
+        Ok(())
     }
 
     fn copy(&mut self, from: Position, to: Position, count: u16) -> Result<(), Refusal> {
-        let mut panel = self.take();
+        let mut panel = take(self);
         let answer = panel.copy_cells(from, to, count);
         *self = panel;
         answer

@@ -2,9 +2,9 @@
 ghost use Rattle.std.specs.Prelude.{◌≡◌};
 ghost use Rattle.panel.specs.Rectangles.{inside};
 
-use crate::Size;
+use crate::{Position, Size};
 
-#[derive(Clone, Copy, PartialEq, Eq)]
+#[derive(Debug, Clone, Copy, PartialEq, Eq)]
 pub struct Rectangle {
     pub top: u16,
     pub left: u16,
@@ -23,5 +23,25 @@ impl Rectangle {
             && 1 <= self.left
             && 1 <= self.columns
             && self.left as u32 + self.columns as u32 <= size.columns as u32 + 1
+    }
+
+    // The size of a panel that shows just it.
+    pub(crate) fn size(self) -> Size
+        ensures { result ≡ record { lines = self.lines; columns = self.columns } }
+    {
+        Size {
+            lines: self.lines,
+            columns: self.columns,
+        }
+    }
+
+    // Where it begins.
+    pub(crate) fn corner(self) -> Position
+        ensures { result ≡ record { line = self.top; column = self.left } }
+    {
+        Position {
+            line: self.top,
+            column: self.left,
+        }
     }
 }

@@ -2,18 +2,18 @@
 //
 // Line by line, the cells that stay in the rectangle are copied, and the part that comes in is erased.
 // Up and left go from the first line on, down and right from the last one, so that no cell is written before it is read.
-ghost use Rattle.std.specs.Prelude.{◌≡◌, ℕ, ◌+◌, ◌-◌, ◌*◌, ◌<◌, ◌≤◌, true, false};
+ghost use Rattle.std.specs.Prelude.{◌≡◌, ℕ, ◌+◌, ◌-◌, ◌*◌, ◌<◌, ◌≤◌, ◌^◌};
 ghost use Rattle.refusal.specs.Table.{answer};
 ghost use Rattle.panel.specs.Grids.{index, done_if};
 ghost use Rattle.panel.specs.Screens.{with_grid, wipe_on};
 ghost use Rattle.panel.specs.Copies.{copied};
 ghost use Rattle.panel.specs.Rectangles.{inside};
-ghost use Rattle.panel.specs.Shifts.{Block, Line, Part, is_forward, line_shifted, shifted, shift_on};
+ghost use Rattle.panel.specs.Shifts.{Block, Line, Part, turn, line_shifted, shifted, shift_on};
 
 use crate::{Panel, Position, Rectangle};
 use refusal::Refusal;
 
-#[derive(Clone, Copy, PartialEq, Eq)]
+#[derive(Debug, Clone, Copy, PartialEq, Eq)]
 pub enum Direction {
     Up,
     Down,
@@ -30,127 +30,80 @@ fn copy_part<P: Panel>(panel: &mut P, from: Position, to: Position, count: u16)
 }
 
 // Erases `count` cells of a line.
-fn erase_part<P: Panel>(panel: &mut P, line: u16, column: u16, count: u16)
-    requires { (Part (P.Panel.shows panel.old).grid line column count) × (1 ≤ count) }
-    ensures { P.Panel.shows panel.new ≡ wipe_on (P.Panel.shows panel.old) (index (P.Panel.shows panel.old).grid line column) count }
+fn erase_part<P: Panel>(panel: &mut P, from: Position, count: u16)
+    requires { (Part (P.Panel.shows panel.old).grid from.line from.column count) × (1 ≤ count) }
+    ensures { P.Panel.shows panel.new ≡ wipe_on (P.Panel.shows panel.old) (index (P.Panel.shows panel.old).grid from.line from.column) count }
 {
-    let _ = panel.erase(line, column, count as usize);
+    let _ = panel.erase(from, count as usize);
 }
 
-// Moves the cells of one line of a rectangle up into it from the line `count` lines below.
-fn line_up<P: Panel>(panel: &mut P, r: Rectangle, count: u16, line: u16)
-    requires { Line (P.Panel.shows panel.old).grid r count line }
-    ensures { P.Panel.shows panel.new ≡ with_grid (P.Panel.shows panel.old) (line_shifted r Direction.Up count line (P.Panel.shows panel.old).grid) }
-{
-    let to = Position {
-        line,
-        column: r.left,
-    };
-    if count <= r.top + (r.lines - 1) - line {
-        let from = Position {
-            line: line + count,
-            column: r.left,
-        };
-        copy_part(panel, from, to, r.columns);
-    } else {
-        erase_part(panel, line, r.left, r.columns);
-    }
+// A rectangle, and where and how far its cells move within it.
+#[derive(Clone, Copy)]
+struct Motion {
+    part: Rectangle,
+    direction: Direction,
+    count: u16,
 }
 
-// The same down, from the line `count` lines above.
-fn line_down<P: Panel>(panel: &mut P, r: Rectangle, count: u16, line: u16)
-    requires { Line (P.Panel.shows panel.old).grid r count line }
-    ensures { P.Panel.shows panel.new ≡ with_grid (P.Panel.shows panel.old) (line_shifted r Direction.Down count line (P.Panel.shows panel.old).grid) }
-{
-    let to = Position {
-        line,
-        column: r.left,
-    };
-    if count <= line - r.top {
-        let from = Position {
-            line: line - count,
-            column: r.left,
-        };
-        copy_part(panel, from, to, r.columns);
-    } else {
-        erase_part(panel, line, r.left, r.columns);
-    }
-}
-
-// Moves the cells of one line of a rectangle to the left.
-fn line_left<P: Panel>(panel: &mut P, r: Rectangle, count: u16, line: u16)
-    requires { Line (P.Panel.shows panel.old).grid r count line }
-    ensures { P.Panel.shows panel.new ≡ with_grid (P.Panel.shows panel.old) (line_shifted r Direction.Left count line (P.Panel.shows panel.old).grid) }
-{
-    if count < r.columns {
-        let kept = r.columns - count;
-        let from = Position {
-            line,
-            column: r.left + count,
-        };
-        let to = Position {
+impl Motion {
+    // Shifts one line: cells come to it from another line or from beside, and where none come it is erased.
+    fn line<P: Panel>(self, panel: &mut P, line: u16)
+        requires { Line (P.Panel.shows panel.old).grid self.part self.count line }
+        ensures { P.Panel.shows panel.new ≡ with_grid (P.Panel.shows panel.old) (line_shifted self.part self.direction self.count line (P.Panel.shows panel.old).grid) }
+    {
+        let r = self.part;
+        let count = self.count;
+        let first = Position {
             line,
             column: r.left,
         };
-        copy_part(panel, from, to, kept);
-        erase_part(panel, line, r.left + kept, count);
-    } else {
-        erase_part(panel, line, r.left, r.columns);
+        match self.direction {
+            Direction::Up if count <= r.top + (r.lines - 1) - line => {
+                let from = Position {
+                    line: line + count,
+                    column: r.left,
+                };
+                copy_part(panel, from, first, r.columns);
+            }
+            Direction::Down if count <= line - r.top => {
+                let from = Position {
+                    line: line - count,
+                    column: r.left,
+                };
+                copy_part(panel, from, first, r.columns);
+            }
+            Direction::Left if count < r.columns => {
+                let kept = r.columns - count;
+                copy_part(panel, first.right_by(count), first, kept);
+                erase_part(panel, first.right_by(kept), count);
+            }
+            Direction::Right if count < r.columns => {
+                copy_part(panel, first, first.right_by(count), r.columns - count);
+                erase_part(panel, first, count);
+            }
+            _ => erase_part(panel, first, r.columns),
+        }
     }
-}
 
-// The same to the right.
-fn line_right<P: Panel>(panel: &mut P, r: Rectangle, count: u16, line: u16)
-    requires { Line (P.Panel.shows panel.old).grid r count line }
-    ensures { P.Panel.shows panel.new ≡ with_grid (P.Panel.shows panel.old) (line_shifted r Direction.Right count line (P.Panel.shows panel.old).grid) }
-{
-    if count < r.columns {
-        let kept = r.columns - count;
-        let from = Position {
-            line,
-            column: r.left,
-        };
-        let to = Position {
-            line,
-            column: r.left + count,
-        };
-        copy_part(panel, from, to, kept);
-        erase_part(panel, line, r.left, count);
-    } else {
-        erase_part(panel, line, r.left, r.columns);
+    // The line that is shifted after `i` others: no line is written before it is read.
+    fn turn(self, i: u16) -> u16
+        requires { (i < self.part.lines) × (self.part.top + self.part.lines ≤ 2 ^ 16) }
+        ensures { result ≡ turn self.part self.direction i }
+    {
+        match self.direction {
+            Direction::Up | Direction::Left => self.part.top + i,
+            Direction::Down | Direction::Right => self.part.top + (self.part.lines - 1 - i),
+        }
     }
-}
 
-// Shifts one line of a rectangle.
-fn shift_line<P: Panel>(panel: &mut P, r: Rectangle, direction: Direction, count: u16, line: u16)
-    requires { Line (P.Panel.shows panel.old).grid r count line }
-    ensures { P.Panel.shows panel.new ≡ with_grid (P.Panel.shows panel.old) (line_shifted r direction count line (P.Panel.shows panel.old).grid) }
-{
-    match direction {
-        Direction::Up => line_up(panel, r, count, line),
-        Direction::Down => line_down(panel, r, count, line),
-        Direction::Left => line_left(panel, r, count, line),
-        Direction::Right => line_right(panel, r, count, line),
-    }
-}
-
-// Shifts up or left: the first line first.
-fn shift_forward<P: Panel>(panel: &mut P, r: Rectangle, direction: Direction, count: u16)
-    requires { (Block (P.Panel.shows panel.old).grid r count) × (is_forward direction ≡ true) }
-    ensures { P.Panel.shows panel.new ≡ with_grid (P.Panel.shows panel.old) (shifted r direction count (P.Panel.shows panel.old).grid) }
-{
-    for i in 0..r.lines {
-        shift_line(panel, r, direction, count, r.top + i);
-    }
-}
-
-// Shifts down or right: the last line first.
-fn shift_backward<P: Panel>(panel: &mut P, r: Rectangle, direction: Direction, count: u16)
-    requires { (Block (P.Panel.shows panel.old).grid r count) × (is_forward direction ≡ false) }
-    ensures { P.Panel.shows panel.new ≡ with_grid (P.Panel.shows panel.old) (shifted r direction count (P.Panel.shows panel.old).grid) }
-{
-    for i in (0..r.lines).rev() {
-        shift_line(panel, r, direction, count, r.top + i);
+    // Shifts all lines.
+    fn lines<P: Panel>(self, panel: &mut P)
+        requires { Block (P.Panel.shows panel.old).grid self.part self.count }
+        ensures { P.Panel.shows panel.new ≡ with_grid (P.Panel.shows panel.old) (shifted self.part self.direction self.count (P.Panel.shows panel.old).grid) }
+    {
+        for i in 0..self.part.lines {
+            self.line(panel, self.turn(i));
+        }
     }
 }
 
@@ -166,16 +119,15 @@ pub fn shift<P: Panel>(
     ensures after { P.Panel.shows panel.new ≡ shift_on (P.Panel.shows panel.old) r direction count }
 {
     if !r.is_inside(panel.size()) {
-        return Err(Refusal::OutsidePanel {
-            line: r.top,
-            column: r.left,
-        });
+        return Err(r.corner().outside());
     }
     if count > 0 {
-        match direction {
-            Direction::Up | Direction::Left => shift_forward(panel, r, direction, count),
-            Direction::Down | Direction::Right => shift_backward(panel, r, direction, count),
-        }
+        let motion = Motion {
+            part: r,
+            direction,
+            count,
+        };
+        motion.lines(panel);
     }
     Ok(())
 }

@@ -8,7 +8,7 @@ ghost use Rattle.panel.specs.Memories.{fitting, roomy};
 use crate::Position;
 
 // A number of lines and of columns.
-#[derive(Clone, Copy, PartialEq, Eq)]
+#[derive(Debug, Clone, Copy, PartialEq, Eq, Default)]
 pub struct Size {
     pub lines: u16,
     pub columns: u16,
@@ -25,72 +25,67 @@ const MOST_LINES: u16 = 64;
 const MOST_COLUMNS: u16 = 132;
 
 impl Size {
-    // Whether a line and column are within the size.
-    pub(crate) fn has(self, line: u16, column: u16) -> bool
-        ensures { result ≡ within self.lines self.columns line column }
+    // How many cells there are.
+    pub(crate) fn count(self) -> usize
+        ensures { result ≡ self.lines * self.columns }
     {
-        1 <= line && line <= self.lines && 1 <= column && column <= self.columns
+        self.lines as usize * self.columns as usize
+    }
+
+    // Whether a line and column are within the size.
+    pub(crate) fn has(self, at: Position) -> bool
+        ensures { result ≡ within self.lines self.columns at.line at.column }
+    {
+        1 <= at.line && at.line <= self.lines && 1 <= at.column && at.column <= self.columns
     }
 
     // The index of a line and column.
-    pub fn find(self, line: u16, column: u16) -> Option<usize>
-        ensures { result ≡ located self line column }
+    pub fn find(self, at: Position) -> Option<usize>
+        ensures { result ≡ located self at.line at.column }
     {
-        if self.has(line, column) {
-            Some((line as usize - 1) * self.columns as usize + (column as usize - 1))
+        if self.has(at) {
+            Some((at.line as usize - 1) * self.columns as usize + (at.column as usize - 1))
         } else {
             None
         }
     }
 
     // The index of a line and column from which `count` cells lie within the size.
-    pub fn find_run(self, line: u16, column: u16, count: usize) -> Option<usize>
-        ensures { result ≡ run_located self line column count }
+    pub fn find_run(self, from: Position, count: usize) -> Option<usize>
+        ensures { result ≡ run_located self from.line from.column count }
     {
-        match self.find(line, column) {
-            Some(at) => {
-                if count <= self.lines as usize * self.columns as usize - at {
-                    Some(at)
-                } else {
-                    None
-                }
-            }
-            None => None,
-        }
+        let k = self.find(from)?;
+        (count <= self.count() - k).then_some(k)
     }
 
     // Whether some cells of a line, and the place where they begin, are within the size.
-    pub(crate) fn has_part(self, at: Position, count: u16) -> bool
-        ensures { result ≡ part_within self.lines self.columns at count }
+    pub(crate) fn has_part(self, from: Position, count: u16) -> bool
+        ensures { result ≡ part_within self.lines self.columns from count }
     {
-        self.has(at.line, at.column) && at.column as u32 + count as u32 <= self.columns as u32 + 1
+        self.has(from) && from.column as u32 + count as u32 <= self.columns as u32 + 1
     }
 
     // The size of a panel that is made on memory for `room` cells: that asked for, or no lines and no columns.
     // The product is formed of a good size only.
-    pub(crate) fn on_memory(lines: u16, columns: u16, room: usize) -> Size
-        ensures { result ≡ (if fitting lines columns room then (record { lines = lines; columns = columns }) else size_of no_grid) }
+    pub(crate) fn on_memory(self, room: usize) -> Size
+        ensures { result ≡ (if fitting self.lines self.columns room then self else size_of no_grid) }
     {
-        if 1 <= lines
-            && lines <= MOST_LINES
-            && 1 <= columns
-            && columns <= MOST_COLUMNS
-            && lines as usize * columns as usize <= room
+        if 1 <= self.lines
+            && self.lines <= MOST_LINES
+            && 1 <= self.columns
+            && self.columns <= MOST_COLUMNS
+            && self.count() <= room
         {
-            Size { lines, columns }
+            self
         } else {
             NO_SIZE
         }
     }
 
-    // The size that is shown of memory for `room` cells.
-    pub(crate) fn if_room(self, room: usize) -> Size
+    // The size that a panel shows of memory for `room` cells: its own, or no lines and no columns if they have no room.
+    pub fn if_room(self, room: usize) -> Size
         ensures { result ≡ (if roomy self room then self else size_of no_grid) }
     {
-        if self.lines as usize * self.columns as usize <= room {
-            self
-        } else {
-            NO_SIZE
-        }
+        if self.count() <= room { self } else { NO_SIZE }
     }
 }

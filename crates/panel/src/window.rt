@@ -3,9 +3,10 @@ ghost use Rattle.std.specs.Prelude.{◌≡◌, ℕ, ◌+◌, ◌-◌, ◌*◌, �
 ghost use Rattle.panel.specs.Grids.{size_of, InLine};
 ghost use Rattle.panel.specs.Screens.{wipe_on};
 ghost use Rattle.panel.specs.Rectangles.{framed};
-ghost use Rattle.panel.specs.Windows.{windowed, windowed_sound, beneath, part_beneath};
+ghost use Rattle.panel.specs.Windows.{windowed, windowed_sound, part_beneath};
 
-use crate::{Cell, Panel, Position, Rectangle, Size, outside};
+use crate::lines::Lines;
+use crate::{Cell, Panel, Position, Rectangle, Size};
 use refusal::Refusal;
 
 #[derive(Drop)]
@@ -26,7 +27,7 @@ impl<P: Panel> Window<P> {
     pub fn into_below(self) -> P
         ensures { result ≡ self.below }
     {
-        let Window { below, frame: _ } = self;
+        let Window { below, .. } = self;
         below
     }
 
@@ -47,67 +48,39 @@ impl<P: Panel> Window<P> {
         }
     }
 
-    // The line and column below of a line and column of the window.
-    fn below_at(&self, line: u16, column: u16) -> Option<(u16, u16)>
-        ensures { result ≡ beneath (framed (P.Panel.shows self.now.below).grid.lines (P.Panel.shows self.now.below).grid.columns self.now.frame) line column }
-    {
-        let f = self.shown();
-        let size = Size {
-            lines: f.lines,
-            columns: f.columns,
-        };
-        if size.has(line, column) {
-            Some((f.top + (line - 1), f.left + (column - 1)))
-        } else {
-            None
-        }
-    }
-
     // Where some cells of a line of the window begin below: there too they are cells of a line.
-    fn part_below(&self, at: Position, count: u16) -> Option<Position>
-        ensures { result ≡ part_beneath (framed (P.Panel.shows self.now.below).grid.lines (P.Panel.shows self.now.below).grid.columns self.now.frame) at count }
+    fn part_below(&self, from: Position, count: u16) -> Option<Position>
+        ensures { result ≡ part_beneath (framed (P.Panel.shows self.now.below).grid.lines (P.Panel.shows self.now.below).grid.columns self.now.frame) from count }
     {
         let f = self.shown();
-        let size = Size {
-            lines: f.lines,
-            columns: f.columns,
-        };
-        if size.has_part(at, count) {
+        if f.size().has_part(from, count) {
             Some(Position {
-                line: f.top + (at.line - 1),
-                column: f.left + (at.column - 1),
+                line: f.top + (from.line - 1),
+                column: f.left + (from.column - 1),
             })
         } else {
             None
         }
     }
+}
 
-    // Erases `count` cells of one line of the window, from its index `at`.
-    fn erase_in_line(&mut self, at: usize, count: usize)
-        requires { InLine (windowed (P.Panel.shows self.old.below) self.old.frame).grid at count }
-        ensures { windowed (P.Panel.shows self.new.below) self.new.frame ≡ wipe_on (windowed (P.Panel.shows self.old.below) self.old.frame) at count }
-    {
-        let f = self.shown();
-        let columns = f.columns as usize;
-        let line = f.top + (at / columns) as u16;
-        let column = f.left + (at % columns) as u16;
-        let _ = self.below.erase(line, column, count);
+impl<P: Panel> Lines for Window<P> {
+    ghost seen = { λ w. windowed (P.Panel.shows w.below) w.frame };
+
+    ghost seen_sound = { λ w. windowed_sound (P.Panel.shows w.below) w.frame (P.Panel.sound w.below) };
+
+    fn columns(&self) -> usize {
+        self.shown().columns as usize
     }
 
-    // Erases `count` cells from the window's index `at`, one line of the window after another.
-    fn erase_from(&mut self, at: usize, count: usize)
-        requires { at + count ≤ (windowed (P.Panel.shows self.old.below) self.old.frame).grid.lines * (windowed (P.Panel.shows self.old.below) self.old.frame).grid.columns }
-        ensures { windowed (P.Panel.shows self.new.below) self.new.frame ≡ wipe_on (windowed (P.Panel.shows self.old.below) self.old.frame) at count }
-    {
-        let columns = self.shown().columns as usize;
-        let mut i = at;
-        let mut left = count;
-        while left > 0 {
-            let n = left.min(columns - i % columns);
-            self.erase_in_line(i, n);
-            i += n;
-            left -= n;
-        }
+    fn erase_in_line(&mut self, at: usize, count: usize) {
+        let f = self.shown();
+        let columns = f.columns as usize;
+        let from = Position {
+            line: f.top + (at / columns) as u16,
+            column: f.left + (at % columns) as u16,
+        };
+        let _ = self.below.erase(from, count);
     }
 }
 
@@ -117,44 +90,28 @@ impl<P: Panel> Panel for Window<P> {
     ghost sound = { λ w. windowed_sound (P.Panel.shows w.below) w.frame (P.Panel.sound w.below) };
 
     fn size(&self) -> Size {
-        let f = self.shown();
-        Size {
-            lines: f.lines,
-            columns: f.columns,
-        }
+        self.shown().size()
     }
 
-    fn cell(&self, line: u16, column: u16) -> Result<Cell, Refusal> {
-        match self.below_at(line, column) {
-            Some((l, c)) => self.below.cell(l, c),
-            None => Err(Refusal::OutsidePanel { line, column }),
-        }
+    fn cell(&self, at: Position) -> Result<Cell, Refusal> {
+        let place = self.part_below(at, 1).ok_or(at.outside())?;
+        self.below.cell(place)
     }
 
-    fn set(&mut self, line: u16, column: u16, cell: Cell) -> Result<(), Refusal> {
-        match self.below_at(line, column) {
-            Some((l, c)) => self.below.set(l, c, cell),
-            None => Err(Refusal::OutsidePanel { line, column }),
-        }
+    fn set(&mut self, at: Position, cell: Cell) -> Result<(), Refusal> {
+        let place = self.part_below(at, 1).ok_or(at.outside())?;
+        self.below.set(place, cell)
     }
 
-    fn erase(&mut self, line: u16, column: u16, count: usize) -> Result<(), Refusal> {
-        match self.size().find_run(line, column, count) {
-            Some(at) => {
-                self.erase_from(at, count);
-                Ok(())
-            }
-            None => Err(Refusal::OutsidePanel { line, column }),
-        }
+    fn erase(&mut self, from: Position, count: usize) -> Result<(), Refusal> {
+        let k = self.size().find_run(from, count).ok_or(from.outside())?;
+        self.erase_from(k, count);
+        Ok(())
     }
 
     fn copy(&mut self, from: Position, to: Position, count: u16) -> Result<(), Refusal> {
-        let Some(source) = self.part_below(from, count) else {
-            return Err(outside(from));
-        };
-        let Some(target) = self.part_below(to, count) else {
-            return Err(outside(to));
-        };
+        let source = self.part_below(from, count).ok_or(from.outside())?;
+        let target = self.part_below(to, count).ok_or(to.outside())?;
         self.below.copy(source, target, count)
     }
 }

@@ -4,7 +4,7 @@
 
 #![tactic(auto)]
 
-use panel::{Cell, ERASED, Panel, Rectangle};
+use panel::{Cell, ERASED, Panel, Position, Rectangle, Size};
 use refusal::Refusal;
 
 #[cfg(test)]
@@ -27,28 +27,32 @@ fn cell_for(byte: u8) -> Cell {
     }
 }
 
+pub fn at(line: u16, column: u16) -> Position {
+    Position { line, column }
+}
+
+pub fn size(lines: u16, columns: u16) -> Size {
+    Size { lines, columns }
+}
+
+// The answer to a call that is refused as off the panel, at this line and column.
+pub fn outside(line: u16, column: u16) -> Result<(), Refusal> {
+    Err(Refusal::OutsidePanel { line, column })
+}
+
 // Sets the cells of a panel, from its first one on, to those of a text.
 pub fn write<P: Panel>(panel: &mut P, text: &[u8]) {
     let size = panel.size();
     let mut line = 1u16;
     let mut column = 1u16;
     for byte in text {
-        let _ = panel.set(line, column, cell_for(*byte));
+        let _ = panel.set(at(line, column), cell_for(*byte));
         if column < size.columns {
             column += 1;
         } else {
             column = 1;
             line = line.saturating_add(1);
         }
-    }
-}
-
-// Whether the cell at a line and column is that for a byte of a text.
-fn reads_at<P: Panel>(panel: &P, line: u16, column: u16, byte: u8) -> bool {
-    let wanted = cell_for(byte);
-    match panel.cell(line, column) {
-        Ok(cell) => cell.code == wanted.code && cell.rendition == wanted.rendition,
-        Err(_) => false,
     }
 }
 
@@ -59,7 +63,7 @@ pub fn reads<P: Panel>(panel: &P, text: &[u8]) -> bool {
     let mut line = 1u16;
     let mut column = 1u16;
     for byte in text {
-        if !reads_at(panel, line, column, *byte) {
+        if panel.cell(at(line, column)) != Ok(cell_for(*byte)) {
             same = false;
         }
         if column < size.columns {
@@ -70,26 +74,6 @@ pub fn reads<P: Panel>(panel: &P, text: &[u8]) -> bool {
         }
     }
     same
-}
-
-pub fn has_size<P: Panel>(panel: &P, lines: u16, columns: u16) -> bool {
-    let size = panel.size();
-    size.lines == lines && size.columns == columns
-}
-
-// Whether a call was refused as off the panel, at this line and column.
-pub fn is_outside(res: Result<(), Refusal>, line: u16, column: u16) -> bool {
-    match res {
-        Err(Refusal::OutsidePanel { line: l, column: c }) => l == line && c == column,
-        _ => false,
-    }
-}
-
-pub fn is_done(res: Result<(), Refusal>) -> bool {
-    match res {
-        Ok(()) => true,
-        Err(_) => false,
-    }
 }
 
 pub fn rectangle(top: u16, left: u16, lines: u16, columns: u16) -> Rectangle {

@@ -1,5 +1,5 @@
 // The shift, in each direction, by none, by some and by all.
-use crate::{is_done, is_outside, reads, rectangle, write};
+use crate::{outside, reads, rectangle, size, write};
 use panel::{Direction, ERASED, ListPanel, ModulePanel, Panel, Rectangle, Window, clear, shift};
 use std::process::Abort;
 
@@ -114,13 +114,13 @@ const CASES: [Case; 14] = [
 fn all_cases<P: Panel>(rt: &impl Abort, p: &mut P) {
     for case in CASES.iter() {
         write(p, b"ABCDEFGHIJKLMNO");
-        assert!(rt; is_done(shift(p, case.part, case.direction, case.count)));
+        assert!(rt; shift(p, case.part, case.direction, case.count).is_ok());
         let after = case.after;
         assert!(rt; reads(p, after));
     }
     write(p, b"ABCDEFGHIJKLMNO");
-    assert!(rt; is_outside(shift(p, rectangle(2, 2, 3, 3), Direction::Up, 1), 2, 2));
-    assert!(rt; is_outside(shift(p, rectangle(0, 9, 1, 1), Direction::Left, 0), 0, 9));
+    assert!(rt; shift(p, rectangle(2, 2, 3, 3), Direction::Up, 1) == outside(2, 2));
+    assert!(rt; shift(p, rectangle(0, 9, 1, 1), Direction::Left, 0) == outside(0, 9));
     assert!(rt; reads(p, b"ABCDEFGHIJKLMNO"));
     clear(p);
     assert!(rt; reads(p, b"..............."));
@@ -129,12 +129,12 @@ fn all_cases<P: Panel>(rt: &impl Abort, p: &mut P) {
 #[test]
 fn rectangles_are_shifted(rt: HostRuntime) {
     let mut cells = [ERASED; 15];
-    all_cases(&rt, &mut ListPanel::new(&mut cells, 3, 5));
+    all_cases(&rt, &mut ListPanel::new(&mut cells, size(3, 5)));
     let mut bytes = [0u8; 45];
-    all_cases(&rt, &mut ModulePanel::new(&mut bytes, 3, 5));
+    all_cases(&rt, &mut ModulePanel::new(&mut bytes, size(3, 5)));
     let mut more = [ERASED; 28];
     all_cases(
         &rt,
-        &mut Window::new(ListPanel::new(&mut more, 4, 7), rectangle(2, 3, 3, 5)),
+        &mut Window::new(ListPanel::new(&mut more, size(4, 7)), rectangle(2, 3, 3, 5)),
     );
 }

@@ -10,9 +10,10 @@ ghost use Rattle.std.specs.Prelude.{◌≡◌, Some};
 ghost use Rattle.refusal.specs.Table.{number, layer, place};
 ghost use Rattle.refusal.specs.Words.{word, layer_word, place_text, text};
 
+use std::error::Error;
 use std::fmt;
 
-#[derive(Clone, Copy, PartialEq, Eq)]
+#[derive(Debug, Clone, Copy, PartialEq, Eq)]
 pub enum Layer {
     Panel,
     Writer,
@@ -20,14 +21,14 @@ pub enum Layer {
 }
 
 // What a refusal points at.
-#[derive(Clone, Copy, PartialEq, Eq)]
+#[derive(Debug, Clone, Copy, PartialEq, Eq)]
 pub enum Place {
     Nowhere,
     Length(usize),
     At { line: u16, column: u16 },
 }
 
-#[derive(Clone, Copy, PartialEq, Eq)]
+#[derive(Debug, Clone, Copy, PartialEq, Eq)]
 pub enum Refusal {
     // The panel's size is outside 1 to 64 lines by 1 to 132 columns.
     PanelSize,
@@ -61,10 +62,10 @@ impl Refusal {
             Refusal::ReplyOwed => 4,
             Refusal::NothingOwed => 5,
             Refusal::Unfinished => 6,
-            Refusal::ForeignCell { line: _, column: _ } => 7,
-            Refusal::ShortBuffer { needed: _ } => 8,
+            Refusal::ForeignCell { .. } => 7,
+            Refusal::ShortBuffer { .. } => 8,
             Refusal::OutOfRange => 9,
-            Refusal::OutsidePanel { line: _, column: _ } => 10,
+            Refusal::OutsidePanel { .. } => 10,
         }
     }
 
@@ -72,8 +73,8 @@ impl Refusal {
         ensures { result ≡ layer self }
     {
         match self {
-            Refusal::ShortBuffer { needed: _ } | Refusal::OutOfRange => Layer::Writer,
-            Refusal::OutsidePanel { line: _, column: _ } => Layer::Panel,
+            Refusal::ShortBuffer { .. } | Refusal::OutOfRange => Layer::Writer,
+            Refusal::OutsidePanel { .. } => Layer::Panel,
             _ => Layer::Page,
         }
     }
@@ -99,10 +100,10 @@ impl Refusal {
             Refusal::ReplyOwed => "Owing",
             Refusal::NothingOwed => "Quits",
             Refusal::Unfinished => "Midway",
-            Refusal::ForeignCell { line: _, column: _ } => "Foreign",
-            Refusal::ShortBuffer { needed: _ } => "Short",
+            Refusal::ForeignCell { .. } => "Foreign",
+            Refusal::ShortBuffer { .. } => "Short",
             Refusal::OutOfRange => "Misfit",
-            Refusal::OutsidePanel { line: _, column: _ } => "Outside",
+            Refusal::OutsidePanel { .. } => "Outside",
         }
     }
 }
@@ -142,3 +143,5 @@ impl fmt::Display for Refusal {
         write!(f, "{number} {word} {layer} {place}")
     }
 }
+
+impl Error for Refusal {}

@@ -1,5 +1,6 @@
-use Rattle.std.proofs.Common.{◌+◌, ◌-◌, arith}
-use Rattle.panel.specs.Grids.{index}
+use Rattle.std.proofs.Common.{◌+◌, ◌-◌, ap, ◌∙◌, arith}
+use Rattle.panel.specs.Grids.{index, cell_answer}
+use Rattle.panel.specs.Screens.{set_on}
 use Rattle.panel.specs.Copies.{in_run}
 use Rattle.panel.proofs.Copied.{true_part, cell_put, copied_next, copied_on, copied_none, unread_ahead, unread_behind, run_none, run_last, run_more, tail_run, tail_none, tail_first, tail_more}
 use Rattle.panel.proofs.Panel.copy_cells.Goals as goal
@@ -30,7 +31,8 @@ loop-i-preserved g c =
     let both = copied_on s h from.line from.column to.line to.column n fp tp (in_run at i) i now (omega arith) c.loop-i.invariant in
     copied_next s h from.line from.column to.line to.column n fp tp (in_run at i) (in_run at (i + 1)) i now (g.Self.Panel.shows c.set.new.self) (omega arith)
     (unread_ahead s.grid from.line from.column to.line to.column n i fp tp c.if-to-from.either (omega arith)) (run_last at i) (run_more at i) c.loop-i.invariant
-    (cell_put now _ from.line (from.column + i) to.line (to.column + i) c.in-Ok.cell both c.in-Ok.ensures c.set.ensures.after)
+    (cell_put now _ from.line (from.column + i) to.line (to.column + i) c.in-Ok.cell both (c.in-Ok.ensures ∙ ap (λ p. cell_answer now.grid p.line p.column) c.right_by.ensures)
+    (c.set.ensures.after ∙ ap (λ p. set_on now p.line p.column c.in-Ok.cell) c.right_by-in-loop-i.ensures))
 
 pub loop-i-else-to-from-init : goal.loop-i-else-to-from-init
 loop-i-else-to-from-init g c =
@@ -59,4 +61,5 @@ loop-i-else-to-from-preserved g c =
     copied_next s h from.line from.column to.line to.column n fp tp (tail_run at n i) (tail_run at n (i - 1)) (i - 1) now (g.Self.Panel.shows c.set-in-loop-i-else-to-from.new.self) (omega arith)
     (unread_behind s.grid from.line from.column to.line to.column n i c.if-to-from.false.0 c.if-to-from.false.1 fp.column_low (omega arith))
     (tail_first at n i (omega arith) (omega arith)) (λ j ne. tail_more at n i j (omega arith) (omega arith) ne) c.loop-i-else-to-from.invariant
-    (cell_put now _ from.line (from.column + (i - 1)) to.line (to.column + (i - 1)) c.in-Ok-cell.cell both c.in-Ok-cell.ensures c.set-in-loop-i-else-to-from.ensures.after)
+    (cell_put now _ from.line (from.column + (i - 1)) to.line (to.column + (i - 1)) c.in-Ok-cell.cell both (c.in-Ok-cell.ensures ∙ ap (λ p. cell_answer now.grid p.line p.column) c.right_by-in-loop-i-else-to-from.ensures)
+    (c.set-in-loop-i-else-to-from.ensures.after ∙ ap (λ p. set_on now p.line p.column c.in-Ok-cell.cell) c.right_by-in-loop-i-else-to-from-2.ensures))

@@ -3,12 +3,12 @@ use Rattle.panel.proofs.Places.{located_at}
 use Rattle.panel.proofs.Listed.{list_index, list_cell}
 use Rattle.panel.proofs.list.ListPanelPanel.cell.Goals as goal
 
-pub bounds-self-at : goal.bounds-self-at
-bounds-self-at c =
+pub bounds-self-k : goal.bounds-self-k
+bounds-self-k c =
     let p = c.args.self.now in
     list_index p _ _ _ (located_at (list_shows p).grid _ _ _ _ c.size.ensures c.in-Some.ensures)
 
-pub returns-in-Some : goal.returns-in-Some
-returns-in-Some c =
+pub returns : goal.returns
+returns c =
     let p = c.args.self.now in
     list_cell p _ _ _ (located_at (list_shows p).grid _ _ _ _ c.size.ensures c.in-Some.ensures)

@@ -1,11 +1,14 @@
-use Rattle.std.proofs.Common.{arith}
+use Rattle.std.proofs.Common.{◌-◌, leb, sym, ap, ◌∙◌, arith}
+use Rattle.std.specs.Bool.{then_some}
 use Rattle.panel.proofs.Places.{run_found, found_low}
 use Rattle.panel.proofs.size.Size.find_run.Goals as goal
 
-pub overflow_sub-self : goal.overflow_sub-self
-overflow_sub-self c = let l = found_low c.args.self c.args.line c.args.column c.in-Some.at c.in-Some.ensures in omega arith
+pub overflow_sub-count : goal.overflow_sub-count
+overflow_sub-count c =
+    let l = found_low c.args.self c.args.from.line c.args.from.column c.in_ok-k.k (sym c.in_ok-k.was ∙ c.find.ensures) in omega (arith, c.count.ensures)
 
-pub returns-then-count-self : goal.returns-then-count-self
-returns-then-count-self c =
-    let l = found_low c.args.self c.args.line c.args.column c.in-Some.at c.in-Some.ensures in
-    run_found c.args.self c.args.line c.args.column c.args.count c.in-Some.at c.in-Some.ensures (omega arith)
+pub returns : goal.returns
+returns c =
+    let k = c.in_ok-k.k in
+    c.then_some.ensures ∙ ap (λ n. then_some (leb c.args.count (n - k)) k) c.count.ensures
+    ∙ run_found c.args.self c.args.from.line c.args.from.column c.args.count k (sym c.in_ok-k.was ∙ c.find.ensures)
