@@ -4,7 +4,6 @@ pub mod Steps
 pub mod Numbers
 pub mod Requests
 pub mod Laws
-pub mod Sound
 pub mod Meaning
 pub mod Classes
 pub mod Items

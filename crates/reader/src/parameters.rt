@@ -1,6 +1,10 @@
+ghost use Rattle.std.specs.Prelude.{◌≤◌};
+
 // The parameters of a control sequence, in order: at most sixteen, each empty or a number up to 9,999.
+// An array with a count beside it, as nothing is allocated and a reader, which holds it, is copied.
 #[derive(Clone, Copy)]
 pub struct Parameters {
     pub(crate) numbers: [Option<u16>; 16],
     pub(crate) count: usize,
+    ghost within: { count ≤ 16 },
 }

@@ -1,5 +1,4 @@
-ghost use Rattle.std.specs.Prelude.{◌≡◌, ◌≤◌};
-ghost use Rattle.reader.specs.Sound.{count_in};
+ghost use Rattle.std.specs.Prelude.{◌≡◌};
 
 use crate::standing::Standing;
 
@@ -7,7 +6,6 @@ use crate::standing::Standing;
 #[derive(Clone, Copy)]
 pub struct Reader {
     pub(crate) standing: Standing,
-    ghost sound: { count_in standing ≤ 16 },
 }
 
 impl Reader {
