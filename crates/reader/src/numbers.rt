@@ -49,14 +49,9 @@ impl Parameters {
         requires { digit < 10 }
         ensures { listed self.new ≡ with_digit (listed self.old) digit }
     {
-        if self.count == 0 {
-            self.numbers[0] = Some(digit);
-            self.count = 1;
-        } else {
-            let at = self.count - 1;
-            let number = grown(self.numbers[at], digit);
-            self.numbers[at] = Some(number);
-        }
+        self.count = self.count.max(1);
+        let last = self.count - 1;
+        self.numbers[last] = Some(grown(self.numbers[last], digit));
     }
 
     // A separator stands after a parameter, and begins one more; false where there is no room for it.
@@ -66,12 +61,7 @@ impl Parameters {
         if self.count == self.numbers.len() {
             return false;
         }
-        if self.count == 0 {
-            self.numbers[0] = None;
-            self.count = 1;
-        }
-        self.numbers[self.count] = None;
-        self.count += 1;
+        self.count = self.count.max(1) + 1;
         true
     }
 }
