@@ -43,10 +43,10 @@ fn run<'a>(class: Class, bytes: &'a [u8]) -> (&'a [u8], &'a [u8])
     ensures all { AllOf (member class) result.0.now }
     ensures stops { Stops (member class) result.1.now }
 {
-    let mut n = 0;
-    while n < bytes.len() && belongs(class, bytes[n]) {
-        n += 1;
-    }
+    let n = bytes
+        .iter()
+        .take_while(|byte| belongs(class, **byte))
+        .count();
     bytes.split_at(n)
 }
 
