@@ -9,5 +9,6 @@ pub mod Classes
 pub mod Items
 pub mod Performs
 pub mod Walks
+pub mod Giving
 pub mod Telling
 pub mod Table

@@ -159,16 +159,24 @@ impl<'a> Items<'a> {
     pub fn new(bytes: &'a [u8]) -> Items<'a>
         ensures bytes { result.bytes.now ≡ bytes.now }
         ensures place { result.place ≡ 0 }
+        ensures performs { ItemsPerform }
     {
         Items { bytes, place: 0 }
     }
+}
+
+impl<'a> Iterator for Items<'a> {
+    ghost use Rattle.std.specs.Iterator.{at_most};
+    ghost use Rattle.reader.specs.Giving.{GivesItem, bytes_left};
+
+    type Item = Item<'a>;
+
+    ghost next_gives = { GivesItem };
+
+    ghost remaining = { λ items. at_most (bytes_left items) };
 
     // The next item, or none at the end of the bytes.
-    pub fn next(&mut self) -> Option<Item<'a>>
-        ensures bytes { self.new.bytes.now ≡ self.old.bytes.now }
-        ensures item { MatchOption result (Ended self.old.bytes.now self.old.place self.new.place) (λ i. Handed self.old.bytes.now self.old.place self.new.place i) }
-        ensures performs { ItemsPerform }
-    {
+    fn next(&mut self) -> Option<Item<'a>> {
         let bytes = self.bytes;
         let place = self.place;
         let (_, left) = bytes.split_at(place);
@@ -191,10 +199,5 @@ pub fn count_items(bytes: &[u8]) -> usize
     ensures performs { CutsPerform }
     ensures unfinished { RestIsUnfinished }
 {
-    let mut items = Items::new(bytes);
-    let mut n = 0;
-    while let Some(_) = items.next() {
-        n += 1;
-    }
-    n
+    Items::new(bytes).count()
 }
