@@ -7,6 +7,7 @@ pub mod Laws
 pub mod Meaning
 pub mod Classes
 pub mod Items
+pub mod Names
 pub mod Performs
 pub mod Walks
 pub mod Giving

@@ -3,7 +3,7 @@ ghost use Rattle.std.specs.Prelude.{◌≡◌};
 use crate::standing::Standing;
 
 // Reads bytes one by one. It is one value, changed in place, and allocates nothing.
-#[derive(Clone, Copy)]
+#[derive(Clone, Copy, Debug, PartialEq, Eq)]
 pub struct Reader {
     pub(crate) standing: Standing,
 }
