@@ -24,17 +24,17 @@ pub enum Class {
 fn belongs(class: Class, byte: u8) -> bool
     ensures { result ≡ member class byte }
 {
-    match (class, byte) {
-        (Class::Graphic, 0x20..=0x7E | 0xA0..=0xFF) => true,
-        (Class::Intermediate, 0x20..=0x2F) => true,
-        (Class::Parameter, 0x30..=0x3F) => true,
-        (Class::Body, 0x08..=0x0D | 0x20..=0x7E) => true,
-        (Class::EscapeFinal, 0x30..=0x7E) => true,
-        (Class::SequenceFinal, 0x40..=0x7E) => true,
-        (Class::Opener, 0x90 | 0x9D..=0x9F) => true,
-        (Class::EscapedOpener, 0x50 | 0x5D..=0x5F) => true,
-        (_, _) => false,
-    }
+    matches!(
+        (class, byte),
+        (Class::Graphic, 0x20..=0x7E | 0xA0..=0xFF)
+            | (Class::Intermediate, 0x20..=0x2F)
+            | (Class::Parameter, 0x30..=0x3F)
+            | (Class::Body, 0x08..=0x0D | 0x20..=0x7E)
+            | (Class::EscapeFinal, 0x30..=0x7E)
+            | (Class::SequenceFinal, 0x40..=0x7E)
+            | (Class::Opener, 0x90 | 0x9D..=0x9F)
+            | (Class::EscapedOpener, 0x50 | 0x5D..=0x5F)
+    )
 }
 
 // The longest run of the class at the front, and what follows it.
@@ -112,7 +112,7 @@ fn sos<'a>(rest: &'a [u8]) -> (Kind, &'a [u8])
         if let Some(after) = after_control(0x9C, tail) {
             return (Kind::String, after);
         }
-        if let Some(_) = after_control(0x98, tail) {
+        if after_control(0x98, tail).is_some() {
             return (Kind::Broken, tail);
         }
         match tail {

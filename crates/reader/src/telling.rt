@@ -71,10 +71,7 @@ fn string_parts<'a>(bytes: &'a [u8]) -> Option<ControlString<'a>>
 fn opens_string(control: u8) -> bool
     ensures { result ≡ opens_string control }
 {
-    match control {
-        0x90 | 0x98 | 0x9D..=0x9F => true,
-        _ => false,
-    }
+    matches!(control, 0x90 | 0x98 | 0x9D..=0x9F)
 }
 
 // What opens a string, by its 8-bit code, and what follows it.
