@@ -12,11 +12,7 @@ use reader::function::Function;
 fn parameter_at(parameters: &[Option<u16>], at: usize) -> Option<u16>
     ensures { result ≡ parameter_at parameters.now at }
 {
-    if at < parameters.len() {
-        parameters[at]
-    } else {
-        None
-    }
+    parameters.get(at).copied().flatten()
 }
 
 fn number_at(parameters: &[Option<u16>], at: usize) -> u16

@@ -9,20 +9,14 @@ use crate::rendition::{Blink, Colour, Intensity, Rendition, Underline};
 pub(crate) fn numeric(parameter: Option<u16>) -> u16
     ensures { result ≡ numeric_of parameter }
 {
-    match parameter {
-        Some(n) => n.max(1),
-        None => 1,
-    }
+    parameter.unwrap_or(1).max(1)
 }
 
 // A selective parameter: missing or empty is 0.
 pub(crate) fn selective(parameter: Option<u16>) -> u16
     ensures { result ≡ selective_of parameter }
 {
-    match parameter {
-        Some(n) => n,
-        None => 0,
-    }
+    parameter.unwrap_or(0)
 }
 
 impl Rendition {
@@ -196,11 +190,9 @@ impl Rendition {
     fn changed_all(self, parameters: &[Option<u16>]) -> Rendition
         ensures { result ≡ changed_all parameters.now self }
     {
-        let mut rendition = self;
-        for p in parameters {
-            rendition = rendition.changed(selective(*p));
-        }
-        rendition
+        parameters
+            .iter()
+            .fold(self, |rendition, p| rendition.changed(selective(*p)))
     }
 
     // SGR: its values in order, and none is 0. It begins from the rendition, or from the standard one
