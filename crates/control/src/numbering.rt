@@ -11,7 +11,7 @@ const UNDERLINES: [Underline; 3] = [Underline::Plain, Underline::Single, Underli
 
 const BLINKS: [Blink; 3] = [Blink::Steady, Blink::Slow, Blink::Rapid];
 
-const COLOURS: [Colour; 9] = [
+pub(crate) const COLOURS: [Colour; 9] = [
     Colour::Default,
     Colour::Black,
     Colour::Red,
