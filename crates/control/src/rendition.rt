@@ -34,6 +34,13 @@ pub enum Colour {
     White,
 }
 
+// What a colour is of.
+#[derive(Clone, Copy, Debug, PartialEq, Eq)]
+pub enum Ground {
+    Foreground,
+    Background,
+}
+
 #[derive(Clone, Copy, Debug, PartialEq, Eq)]
 pub struct Rendition {
     pub intensity: Intensity,
