@@ -1,8 +1,9 @@
 -- The control functions that finals, single controls and values select.
-use Rattle.std.specs.Prelude.{ℕ, cond, List, [], ◌∷◌, length, None, nat_le, slice_index_or}
+use Rattle.std.specs.Prelude.{ℕ, cond, List, [], ◌∷◌, length, Option, Some, None, nat_le, slice_index_or}
 use Rattle.reader.specs.Functions.{Parameter, Function, graphic, control, reset, sequence}
 use Rattle.control.specs.declared.function.Control.{Control}
 use Rattle.control.specs.declared.function.Control.TheVariants as c
+use Rattle.control.specs.declared.function.Extent.{Extent}
 use Rattle.control.specs.declared.function.Extent.TheVariants.{ToEnd, FromStart, All}
 use Rattle.control.specs.declared.function.Clearing.TheVariants.{ColumnStop, LineStop, AllColumnStops, AllLineStops, AllStops}
 use Rattle.control.specs.declared.function.Report.TheVariants.{Status, Position}
@@ -32,6 +33,10 @@ counted ps f = at_most 1 ps (f (number_at ps 0))
 
 abbrev pub chosen : List Parameter → List (ℕ × Control) → Control
 chosen ps t = at_most 1 ps (pick (choice_at ps 0) t no_effect)
+
+-- how much ED and EL erase
+abbrev pub extent_of : ℕ → Option Extent
+extent_of n = pick n ((0, Some ToEnd) ∷ (1, Some FromStart) ∷ (2, Some All) ∷ []) None
 
 -- ED and EL
 abbrev pub page_extents : List (ℕ × Control)

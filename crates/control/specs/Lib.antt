@@ -2,3 +2,4 @@ pub mod Renditions
 pub mod Tables
 pub mod Selecting
 pub mod Decoding
+pub mod Setting

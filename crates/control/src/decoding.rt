@@ -2,7 +2,7 @@
 ghost use Rattle.std.specs.Prelude.{◌≡◌, ℕ, ◌+◌, ◌-◌, ◌≤◌};
 ghost use Rattle.reader.specs.Meaning.{function_of};
 ghost use Rattle.control.specs.Tables.{pick};
-ghost use Rattle.control.specs.Decoding.{parameter_at, number_at, choice_at, at_most, no_effect, page_extents, line_extents, clearings, reports, plain_finals, spaced_finals, singles, decoded};
+ghost use Rattle.control.specs.Decoding.{parameter_at, number_at, choice_at, at_most, no_effect, extent_of, clearings, reports, plain_finals, spaced_finals, singles, decoded};
 
 use crate::function::{Clearing, Control, Extent, Report};
 use crate::selecting::{numeric, selective};
@@ -12,11 +12,7 @@ use reader::function::Function;
 fn parameter_at(parameters: &[Option<u16>], at: usize) -> Option<u16>
     ensures { result ≡ parameter_at parameters.now at }
 {
-    if at < parameters.len() {
-        parameters[at]
-    } else {
-        None
-    }
+    parameters.get(at).copied().flatten()
 }
 
 fn number_at(parameters: &[Option<u16>], at: usize) -> u16
@@ -42,25 +38,14 @@ fn at_most(most: usize, parameters: &[Option<u16>], control: Control) -> Control
     }
 }
 
-fn page_extent(choice: u16) -> Control
-    ensures { result ≡ pick choice page_extents no_effect }
+fn extent(choice: u16) -> Option<Extent>
+    ensures { result ≡ extent_of choice }
 {
     match choice {
-        0 => Control::EraseInPage(Extent::ToEnd),
-        1 => Control::EraseInPage(Extent::FromStart),
-        2 => Control::EraseInPage(Extent::All),
-        _ => Control::Nothing,
-    }
-}
-
-fn line_extent(choice: u16) -> Control
-    ensures { result ≡ pick choice line_extents no_effect }
-{
-    match choice {
-        0 => Control::EraseInLine(Extent::ToEnd),
-        1 => Control::EraseInLine(Extent::FromStart),
-        2 => Control::EraseInLine(Extent::All),
-        _ => Control::Nothing,
+        0 => Some(Extent::ToEnd),
+        1 => Some(Extent::FromStart),
+        2 => Some(Extent::All),
+        _ => None,
     }
 }
 
@@ -93,6 +78,7 @@ fn plain_control(parameters: &[Option<u16>], final_byte: u8) -> Control
 {
     let n = number_at(parameters, 0);
     let choice = choice_at(parameters, 0);
+    let extent = extent(choice);
     match final_byte as char {
         '@' => at_most(1, parameters, Control::InsertCharacters(n)),
         'A' | 'k' => at_most(1, parameters, Control::Up(n)),
@@ -102,8 +88,16 @@ fn plain_control(parameters: &[Option<u16>], final_byte: u8) -> Control
         'G' | '`' => at_most(1, parameters, Control::ToColumn(n)),
         'H' | 'f' => at_most(2, parameters, Control::GoTo(n, number_at(parameters, 1))),
         'I' => at_most(1, parameters, Control::Tab(n)),
-        'J' => at_most(1, parameters, page_extent(choice)),
-        'K' => at_most(1, parameters, line_extent(choice)),
+        'J' => at_most(
+            1,
+            parameters,
+            extent.map_or(Control::Nothing, Control::EraseInPage),
+        ),
+        'K' => at_most(
+            1,
+            parameters,
+            extent.map_or(Control::Nothing, Control::EraseInLine),
+        ),
         'L' => at_most(1, parameters, Control::InsertLines(n)),
         'M' => at_most(1, parameters, Control::DeleteLines(n)),
         'P' => at_most(1, parameters, Control::DeleteCharacters(n)),

@@ -1,7 +1,7 @@
 // Control functions by what they do.
 
 // What is erased of a page or a line.
-#[derive(Clone, Copy)]
+#[derive(Clone, Copy, Debug, PartialEq, Eq)]
 pub enum Extent {
     // from the active position to the end
     ToEnd,
@@ -11,7 +11,7 @@ pub enum Extent {
 }
 
 // Which stops TBC clears.
-#[derive(Clone, Copy)]
+#[derive(Clone, Copy, Debug, PartialEq, Eq)]
 pub enum Clearing {
     // the character stop at the active column
     ColumnStop,
@@ -23,13 +23,13 @@ pub enum Clearing {
 }
 
 // The replies that DSR requests.
-#[derive(Clone, Copy)]
+#[derive(Clone, Copy, Debug, PartialEq, Eq)]
 pub enum Report {
     Status,
     Position,
 }
 
-#[derive(Clone, Copy)]
+#[derive(Clone, Copy, Debug, PartialEq, Eq)]
 pub enum Control {
     Nothing,
     Character(u8),

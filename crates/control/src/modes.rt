@@ -4,7 +4,7 @@ ghost use Rattle.control.specs.Selecting.{set_mode, set_all};
 
 use crate::selecting::selective;
 
-#[derive(Clone, Copy)]
+#[derive(Clone, Copy, Debug, PartialEq, Eq)]
 pub struct Modes {
     // IRM: a character is inserted, in place of replacing
     pub insertion: bool,
@@ -33,10 +33,8 @@ impl Modes {
     pub fn with_all(self, parameters: &[Option<u16>], set: bool) -> Modes
         ensures { result ≡ set_all set parameters.now self }
     {
-        let mut modes = self;
-        for p in parameters {
-            modes = modes.with(selective(*p), set);
-        }
-        modes
+        parameters
+            .iter()
+            .fold(self, |modes, p| modes.with(selective(*p), set))
     }
 }

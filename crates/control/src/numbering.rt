@@ -4,109 +4,24 @@ ghost use Rattle.control.specs.Renditions.{of_intensity, of_underline, of_blink,
 
 use crate::rendition::{Blink, Colour, Intensity, Rendition, Underline};
 
-fn intensity_number(x: Intensity) -> u16
-    ensures { result ≡ of_intensity x }
-{
-    match x {
-        Intensity::Normal => 0,
-        Intensity::Bold => 1,
-        Intensity::Faint => 2,
-    }
-}
+// The variants of each aspect by their numbers.
+const INTENSITIES: [Intensity; 3] = [Intensity::Normal, Intensity::Bold, Intensity::Faint];
 
-fn underline_number(x: Underline) -> u16
-    ensures { result ≡ of_underline x }
-{
-    match x {
-        Underline::Plain => 0,
-        Underline::Single => 1,
-        Underline::Double => 2,
-    }
-}
+const UNDERLINES: [Underline; 3] = [Underline::Plain, Underline::Single, Underline::Double];
 
-fn blink_number(x: Blink) -> u16
-    ensures { result ≡ of_blink x }
-{
-    match x {
-        Blink::Steady => 0,
-        Blink::Slow => 1,
-        Blink::Rapid => 2,
-    }
-}
+const BLINKS: [Blink; 3] = [Blink::Steady, Blink::Slow, Blink::Rapid];
 
-fn flag_number(x: bool) -> u16
-    ensures { result ≡ of_flag x }
-{
-    if x { 1 } else { 0 }
-}
-
-fn colour_number(x: Colour) -> u16
-    ensures { result ≡ of_colour x }
-{
-    match x {
-        Colour::Default => 0,
-        Colour::Black => 1,
-        Colour::Red => 2,
-        Colour::Green => 3,
-        Colour::Yellow => 4,
-        Colour::Blue => 5,
-        Colour::Magenta => 6,
-        Colour::Cyan => 7,
-        Colour::White => 8,
-    }
-}
-
-fn intensity_of(n: u16) -> Intensity
-    ensures { result ≡ to_intensity n }
-{
-    match n {
-        0 => Intensity::Normal,
-        1 => Intensity::Bold,
-        _ => Intensity::Faint,
-    }
-}
-
-fn underline_of(n: u16) -> Underline
-    ensures { result ≡ to_underline n }
-{
-    match n {
-        0 => Underline::Plain,
-        1 => Underline::Single,
-        _ => Underline::Double,
-    }
-}
-
-fn blink_of(n: u16) -> Blink
-    ensures { result ≡ to_blink n }
-{
-    match n {
-        0 => Blink::Steady,
-        1 => Blink::Slow,
-        _ => Blink::Rapid,
-    }
-}
-
-fn flag_of(n: u16) -> bool
-    ensures { result ≡ to_flag n }
-{
-    n != 0
-}
-
-fn colour_of(n: u16) -> Colour
-    ensures { result ≡ to_colour n }
-{
-    match n {
-        0 => Colour::Default,
-        1 => Colour::Black,
-        2 => Colour::Red,
-        3 => Colour::Green,
-        4 => Colour::Yellow,
-        5 => Colour::Blue,
-        6 => Colour::Magenta,
-        7 => Colour::Cyan,
-        _ => Colour::White,
-    }
-}
+pub(crate) const COLOURS: [Colour; 9] = [
+    Colour::Default,
+    Colour::Black,
+    Colour::Red,
+    Colour::Green,
+    Colour::Yellow,
+    Colour::Blue,
+    Colour::Magenta,
+    Colour::Cyan,
+    Colour::White,
+];
 
 impl Rendition {
     // The number that stands for it in a cell, 0 to 34,991.
@@ -114,15 +29,15 @@ impl Rendition {
         ensures answer { result ≡ number_of self }
         ensures small { result < 34992 }
     {
-        intensity_number(self.intensity)
-            + 3 * flag_number(self.italic)
-            + 6 * underline_number(self.underline)
-            + 18 * blink_number(self.blink)
-            + 54 * flag_number(self.negative)
-            + 108 * flag_number(self.concealed)
-            + 216 * flag_number(self.crossed_out)
-            + 432 * colour_number(self.foreground)
-            + 3888 * colour_number(self.background)
+        self.intensity as u16
+            + 3 * u16::from(self.italic)
+            + 6 * self.underline as u16
+            + 18 * self.blink as u16
+            + 54 * u16::from(self.negative)
+            + 108 * u16::from(self.concealed)
+            + 216 * u16::from(self.crossed_out)
+            + 432 * self.foreground as u16
+            + 3888 * self.background as u16
     }
 
     // The rendition that a number stands for; none above 34,991.
@@ -134,15 +49,15 @@ impl Rendition {
             return None;
         }
         Some(Rendition {
-            intensity: intensity_of(number % 3),
-            italic: flag_of(number / 3 % 2),
-            underline: underline_of(number / 6 % 3),
-            blink: blink_of(number / 18 % 3),
-            negative: flag_of(number / 54 % 2),
-            concealed: flag_of(number / 108 % 2),
-            crossed_out: flag_of(number / 216 % 2),
-            foreground: colour_of(number / 432 % 9),
-            background: colour_of(number / 3888),
+            intensity: INTENSITIES[usize::from(number % 3)],
+            italic: number / 3 % 2 == 1,
+            underline: UNDERLINES[usize::from(number / 6 % 3)],
+            blink: BLINKS[usize::from(number / 18 % 3)],
+            negative: number / 54 % 2 == 1,
+            concealed: number / 108 % 2 == 1,
+            crossed_out: number / 216 % 2 == 1,
+            foreground: COLOURS[usize::from(number / 432 % 9)],
+            background: COLOURS[usize::from(number / 3888)],
         })
     }
 }

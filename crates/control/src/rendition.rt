@@ -1,27 +1,27 @@
 // Renditions: how a graphic character looks, by nine aspects.
 
-#[derive(Clone, Copy)]
+#[derive(Clone, Copy, Debug, PartialEq, Eq)]
 pub enum Intensity {
     Normal,
     Bold,
     Faint,
 }
 
-#[derive(Clone, Copy)]
+#[derive(Clone, Copy, Debug, PartialEq, Eq)]
 pub enum Underline {
     Plain,
     Single,
     Double,
 }
 
-#[derive(Clone, Copy)]
+#[derive(Clone, Copy, Debug, PartialEq, Eq)]
 pub enum Blink {
     Steady,
     Slow,
     Rapid,
 }
 
-#[derive(Clone, Copy)]
+#[derive(Clone, Copy, Debug, PartialEq, Eq)]
 pub enum Colour {
     Default,
     Black,
@@ -34,7 +34,14 @@ pub enum Colour {
     White,
 }
 
-#[derive(Clone, Copy)]
+// What a colour is of.
+#[derive(Clone, Copy, Debug, PartialEq, Eq)]
+pub enum Ground {
+    Foreground,
+    Background,
+}
+
+#[derive(Clone, Copy, Debug, PartialEq, Eq)]
 pub struct Rendition {
     pub intensity: Intensity,
     pub italic: bool,

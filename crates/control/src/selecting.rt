@@ -3,26 +3,21 @@ ghost use Rattle.std.specs.Prelude.{◌≡◌};
 ghost use Rattle.control.specs.Renditions.{standard as standard_rendition};
 ghost use Rattle.control.specs.Selecting.{numeric as numeric_of, selective as selective_of, changed, changed_all, selected};
 
+use crate::numbering::COLOURS;
 use crate::rendition::{Blink, Colour, Intensity, Rendition, Underline};
 
 // A numeric parameter: missing, empty or 0 is 1.
 pub(crate) fn numeric(parameter: Option<u16>) -> u16
     ensures { result ≡ numeric_of parameter }
 {
-    match parameter {
-        Some(n) => n.max(1),
-        None => 1,
-    }
+    parameter.unwrap_or(1).max(1)
 }
 
 // A selective parameter: missing or empty is 0.
 pub(crate) fn selective(parameter: Option<u16>) -> u16
     ensures { result ≡ selective_of parameter }
 {
-    match parameter {
-        Some(n) => n,
-        None => 0,
-    }
+    parameter.unwrap_or(0)
 }
 
 impl Rendition {
@@ -117,72 +112,16 @@ impl Rendition {
                 crossed_out: false,
                 ..self
             },
-            30 => Rendition {
-                foreground: Colour::Black,
-                ..self
-            },
-            31 => Rendition {
-                foreground: Colour::Red,
-                ..self
-            },
-            32 => Rendition {
-                foreground: Colour::Green,
-                ..self
-            },
-            33 => Rendition {
-                foreground: Colour::Yellow,
-                ..self
-            },
-            34 => Rendition {
-                foreground: Colour::Blue,
-                ..self
-            },
-            35 => Rendition {
-                foreground: Colour::Magenta,
-                ..self
-            },
-            36 => Rendition {
-                foreground: Colour::Cyan,
-                ..self
-            },
-            37 => Rendition {
-                foreground: Colour::White,
+            30..=37 => Rendition {
+                foreground: COLOURS[usize::from(value - 29)],
                 ..self
             },
             39 => Rendition {
                 foreground: Colour::Default,
                 ..self
             },
-            40 => Rendition {
-                background: Colour::Black,
-                ..self
-            },
-            41 => Rendition {
-                background: Colour::Red,
-                ..self
-            },
-            42 => Rendition {
-                background: Colour::Green,
-                ..self
-            },
-            43 => Rendition {
-                background: Colour::Yellow,
-                ..self
-            },
-            44 => Rendition {
-                background: Colour::Blue,
-                ..self
-            },
-            45 => Rendition {
-                background: Colour::Magenta,
-                ..self
-            },
-            46 => Rendition {
-                background: Colour::Cyan,
-                ..self
-            },
-            47 => Rendition {
-                background: Colour::White,
+            40..=47 => Rendition {
+                background: COLOURS[usize::from(value - 39)],
                 ..self
             },
             49 => Rendition {
@@ -196,11 +135,9 @@ impl Rendition {
     fn changed_all(self, parameters: &[Option<u16>]) -> Rendition
         ensures { result ≡ changed_all parameters.now self }
     {
-        let mut rendition = self;
-        for p in parameters {
-            rendition = rendition.changed(selective(*p));
-        }
-        rendition
+        parameters
+            .iter()
+            .fold(self, |rendition, p| rendition.changed(selective(*p)))
     }
 
     // SGR: its values in order, and none is 0. It begins from the rendition, or from the standard one

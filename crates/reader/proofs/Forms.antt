@@ -1,7 +1,8 @@
 -- Runs of a class, and the forms of items that are made of them.
-use Rattle.std.proofs.Common.{◌≡◌, ℕ, ◌+◌, ◌-◌, ◌<◌, ◌≤◌, Bool, true, false, eqb, List, [], ◌∷◌, ◌++◌, length, get_or, take, drop, sym, refl, ap, ◌∙◌, subst, inl, inr, append_assoc, append-nil, not-suc-le-zero, add-one, arith, length-drop, take_all, drop-cons, take-suc}
+use Rattle.std.proofs.Common.{◌≡◌, ℕ, suc, cond, ◌+◌, ◌-◌, ◌<◌, Bool, true, false, eqb, List, [], ◌∷◌, ◌++◌, length, get_or, take, drop, sym, refl, ap, ◌∙◌, subst, inl, inr, append_assoc, append-nil, not-suc-le-zero, arith, take_all}
 use Rattle.std.proofs.lemmas.Bool.{eq-eqb, or_left, or_right, and_from, or_parts, both_ways}
 use Rattle.std.proofs.lemmas.Bool.Decides.{nat_tests}
+use Rattle.std.specs.List.{prefix_len}
 use Rattle.reader.specs.declared.item.Kind.{Kind}
 use Rattle.reader.specs.declared.item.Kind.TheVariants.{Text, Control, Escape, Sequence, String, Broken, Rest}
 use Rattle.reader.specs.Bytes.{is_graphic, is_opener, is_body, is_intermediate, is_parameter, ends_escape, ends_sequence, AllOf, Stops}
@@ -9,22 +10,14 @@ use Rattle.reader.specs.Items as item
 use Rattle.reader.specs.Items.{Spells, begins, Free, is_lone, Form}
 use Rattle.reader.specs.Walks.{Leaves, Leads, Opens, opens_more}
 
-pub all_more : (P : ℕ → Bool) (bs : List ℕ) (n : ℕ) → n < length bs → AllOf P (take n bs) → P (get_or bs n 0) ≡ true → AllOf P (take (n + 1) bs)
-all_more P bs n h a e = rw (add-one, take-suc bs n 0) (all_snoc (take n bs) a)
+-- the longest front of a class is all of that class
+pub front_all : (P : ℕ → Bool) (bs : List ℕ) → AllOf P (take (prefix_len P bs) bs)
+front_all P [] = tt
+front_all P (b ∷ bs) = by_test (P b) refl (front_all P bs)
   where
-    all_snoc : (xs : List ℕ) → AllOf P xs → AllOf P (xs ++ get_or bs n 0 ∷ [])
-    all_snoc [] a = (e, tt)
-    all_snoc (x ∷ xs) a = (a.0, all_snoc xs a.1)
-
-pub stops_here : (P : ℕ → Bool) (bs : List ℕ) (n : ℕ) → n < length bs → P (get_or bs n 0) ≡ false → Stops P (drop n bs)
-stops_here P bs n h e = rw (drop-cons bs n 0) e
-
-pub stops_end : (P : ℕ → Bool) (bs : List ℕ) (n : ℕ) → length bs ≤ n → Stops P (drop n bs)
-stops_end P bs n h = none (drop n bs) (length-drop n bs ∙ omega arith)
-  where
-    none : (l : List ℕ) → length l ≡ 0 → Stops P l
-    none [] e = tt
-    none (x ∷ xs) e = absurd (omega arith)
+    by_test : (t : Bool) → P b ≡ t → AllOf P (take (prefix_len P bs) bs) → AllOf P (take (cond t (1 + prefix_len P bs) 0) (b ∷ bs))
+    by_test true e others = let one : 1 + prefix_len P bs ≡ suc (prefix_len P bs) = omega arith in rw one (e, others)
+    by_test false e others = tt
 
 -- what a slice pattern `[first, after @ ..]` names
 pub pattern_one : (t : List ℕ) → 0 < length t → get_or t 0 0 ∷ take (length t - 1) (drop 1 t) ≡ t

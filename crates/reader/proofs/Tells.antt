@@ -1,9 +1,10 @@
 -- What items tell: the sequence that bytes perform, and the parts of a string.
-use Rattle.std.proofs.Common.{◌≡◌, ℕ, ◌+◌, ◌-◌, ◌<◌, min, true, false, cond, eqb, List, [], ◌∷◌, ◌++◌, length, get_or, take, drop, Some, None, Option, sym, refl, ap, ◌∙◌, subst, inl, inr, append_assoc, append-nil, arith, length-append, take-append-drop, Bor, MatchOption}
-use mathlib.Core.List.{append_cancel_right}
-use Rattle.std.proofs.lemmas.Bool.{cond-false, or_left, or_right}
+use Rattle.std.proofs.Common.{◌≡◌, ℕ, ◌+◌, ◌-◌, ◌<◌, min, true, false, cond, eqb, List, [], ◌∷◌, ◌++◌, suc, drop-cons, length, get_or, take, drop, Some, None, Option, sym, refl, ap, ◌∙◌, subst, inl, inr, append_assoc, append-nil, arith, take-append-drop, MatchOption}
+use Rattle.std.proofs.lemmas.List.{append_cancel_right}
+use Rattle.std.proofs.lemmas.Bool.{false≢true, cond-false, or_left, or_right}
 use Rattle.std.proofs.lemmas.Bool.Decides.{nat_tests}
-use Rattle.std.specs.Option.{option_map, option_to_list}
+use Rattle.std.proofs.Math.Seq.{drop-length}
+use Rattle.std.specs.Option.{is_some, option_map, option_to_list}
 use Rattle.reader.specs.declared.function.Function as code
 use Rattle.reader.specs.declared.function.Completed.{Completed}
 use Rattle.reader.specs.declared.item.ControlString.{ControlString}
@@ -35,6 +36,10 @@ two_tell_none (graphic b) g fs = refl
 two_tell_none (control b) g fs = refl
 two_tell_none reset g fs = refl
 two_tell_none (sequence ps space e) g fs = refl
+
+pub some_is : {A : Type 0} (o : Option A) → is_some o ≡ true → (a : A) × (o ≡ Some a)
+some_is None h = absurd (false≢true h)
+some_is (Some a) h = (a, refl)
 
 -- one turn of a loop that keeps what the bytes so far perform, while that is at most one function
 module _ (t : Standing) (o : Option code.Function) (g : Completed) (i : ℕ) (xs : List ℕ) (on : i < length xs) (at : t ≡ standing_after rest (take i xs)) (sofar : option_to_list (option_map function_of o) ≡ performed rest (take i xs)) (completes : functions_of g ≡ (step t (get_or xs i 0)).performs) where
@@ -82,15 +87,14 @@ same_last xs ys a b e = sym (last_is 0 xs a) ∙ ap (last_of 0) e ∙ last_is 0 
 same_front : (xs ys : List ℕ) (a b : ℕ) → xs ++ a ∷ [] ≡ ys ++ b ∷ [] → xs ≡ ys
 same_front xs ys a b e = append_cancel_right xs ys (a ∷ []) (e ∙ ap (λ (z : ℕ). ys ++ z ∷ []) (sym (same_last xs ys a b e)))
 
-pub no_bytes_end : (xs front : List ℕ) (b : ℕ) → length xs ≡ 0 → xs ≡ front ++ b ∷ [] → ⊥
-no_bytes_end xs front b n e = omega (arith, simp length-append at (ap length e))
-
--- what ST ends, in one form or the other
-pub closed_one : (l body : List ℕ) → l ≡ body ++ 0x9C ∷ [] → Closed l body
-closed_one l body e = (0x9C ∷ [], inl refl, e)
-
-closed_two : (l front body : List ℕ) → l ≡ front ++ 0x5C ∷ [] → front ≡ body ++ 0x1B ∷ [] → Closed l body
-closed_two l front body e f = (0x1B ∷ 0x5C ∷ [], inr refl, e ∙ ap (λ (z : List ℕ). z ++ 0x5C ∷ []) f ∙ append_assoc body (0x1B ∷ []) (0x5C ∷ []))
+-- ST stands at the end, in one form or the other
+pub closed_one : (l : List ℕ) → 0 < length l → get_or l (length l - 1) 0 ≡ 0x9C → Closed l (take (length l - 1) l)
+closed_one l h e =
+    let last : drop (length l - 1) l ≡ 0x9C ∷ [] = drop-cons l (length l - 1) 0 (omega arith) ∙ (λ i. e i ∷ drop-past i) in
+    (0x9C ∷ [], inl refl, sym (take-append-drop (length l - 1) l) ∙ ap (λ (z : List ℕ). take (length l - 1) l ++ z) last)
+  where
+    drop-past : drop (suc (length l - 1)) l ≡ []
+    drop-past = let all : suc (length l - 1) ≡ length l = omega (arith, h) in rw all (drop-length l)
 
 -- the form of ST that ends bytes
 data Ending (l body : List ℕ) : Type 0 where
@@ -100,16 +104,6 @@ data Ending (l body : List ℕ) : Type 0 where
 ending : (l body : List ℕ) → Closed l body → Ending l body
 ending l body (st, inl s, e) = one (e ∙ ap (λ (z : List ℕ). body ++ z) s)
 ending l body (st, inr s, e) = two (e ∙ ap (λ (z : List ℕ). body ++ z) s ∙ sym (append_assoc body (0x1B ∷ []) (0x5C ∷ [])))
-
-pub unclosed : (l : List ℕ) → ((front : List ℕ) → l ≡ front ++ 0x9C ∷ [] → ⊥) → ((front : List ℕ) → l ≡ (front ++ 0x1B ∷ []) ++ 0x5C ∷ [] → ⊥) → (body : List ℕ) → Closed l body → ⊥
-unclosed l p q body c = by (ending l body c)
-  where
-    by : Ending l body → ⊥
-    by (one e) = p body e
-    by (two e) = q body e
-
-unescaped : (l front : List ℕ) → l ≡ front ++ 0x5C ∷ [] → ((body : List ℕ) → front ≡ body ++ 0x1B ∷ [] → ⊥) → (body : List ℕ) → l ≡ (body ++ 0x1B ∷ []) ++ 0x5C ∷ [] → ⊥
-unescaped l front e p body f = p body (same_front front (body ++ 0x1B ∷ []) 0x5C 0x5C (sym e ∙ f))
 
 closed_is_only : (l a b : List ℕ) → Closed l a → Closed l b → a ≡ b
 closed_is_only l a b c d = by (ending l a c) (ending l b d)
@@ -176,11 +170,6 @@ pub opened_two : (x : List ℕ) (b k : ℕ) (l : List ℕ) → 0x1B ∷ b ∷ l 
 opened_two x b k l e m h =
     let lower : b ≡ k - 64 = grind (arith, nat_tests) in
     (0x1B ∷ (k - 64) ∷ [], h, inr refl, sym e ∙ ap (λ (z : ℕ). 0x1B ∷ z ∷ l) lower)
-
--- where 9C does not end l, what stands before 5C tells whether ST does
-pub closed_by_esc : (o : Option (Bor (List ℕ))) (l front : List ℕ) → ((body : List ℕ) → l ≡ body ++ 0x9C ∷ [] → ⊥) → l ≡ front ++ 0x5C ∷ [] → MatchOption o ((body : List ℕ) → front ≡ body ++ 0x1B ∷ [] → ⊥) (λ body. front ≡ body.now ++ 0x1B ∷ []) → MatchOption o ((body : List ℕ) → Closed l body → ⊥) (λ body. Closed l body.now)
-closed_by_esc None l front none e h = unclosed l none (unescaped l front e h)
-closed_by_esc (Some body) l front none e h = closed_two l front body.now e h
 
 -- an item of that kind tells what its bytes are, and one of another kind nothing
 pub tells_by_kind : (o : Option ControlString) (kind : Kind) (x : List ℕ) → kind ≡ String → MatchOption o ((k : ℕ) (body : List ℕ) → StringParts x k body → ⊥) (λ s. StringParts x s.opener s.body.now) → MatchOption o ((k : ℕ) (body : List ℕ) → TellsString kind x k body → ⊥) (λ s. TellsString kind x s.opener s.body.now)

@@ -1,13 +1,17 @@
 -- The whole walk: the items of all the bytes, and what they perform.
-use Rattle.std.proofs.Common.{◌≡◌, ℕ, ◌+◌, ◌≤◌, true, false, ◌↔◌, List, [], ◌∷◌, ◌++◌, length, drop, sym, refl, ap, ◌∙◌, subst, append-nil, arith, length-append}
+use Rattle.std.proofs.Common.{◌≡◌, ℕ, ◌+◌, true, false, ◌↔◌, None, List, [], ◌∷◌, map, ◌++◌, length, drop, sym, refl, ap, ◌∙◌, subst, append-nil, arith, length-append}
+use Rattle.std.proofs.Math.Seq.{drop-length}
 use Rattle.std.proofs.lemmas.Bool.{both_ways}
+use Rattle.std.specs.Iterator.{Yields}
 use Rattle.reader.specs.declared.item.Item.{Item}
+use Rattle.reader.specs.declared.item.Items.{Items}
 use Rattle.reader.specs.declared.item.Kind.{Kind}
 use Rattle.reader.specs.declared.item.Kind.TheVariants.{Text, Control, Escape, Sequence, String, Broken, Rest}
 use Rattle.reader.specs.Functions.{Function}
 use Rattle.reader.specs.Steps.{Standing, rest, is_at_rest, standing_after, performed}
 use Rattle.reader.specs.Items.{Form}
-use Rattle.reader.specs.Walks.{Handed, spelling}
+use Rattle.reader.specs.Walks.{spelling}
+use Rattle.reader.specs.Giving.{GivesItem}
 use Rattle.reader.specs.Performs.{Part, Cut, item_performs, CutsPerform, is_rest, unfinished, RestIsUnfinished}
 use Rattle.reader.proofs.Parts.{standing_parts, performed_parts}
 use Rattle.reader.proofs.Endings.{behind_item, rest_unrested}
@@ -17,40 +21,12 @@ use Rattle.reader.proofs.Walk.{item_some}
 abbrev pub part_of : Item → Part
 part_of i = record { kind = i.kind; place = i.place; bytes = spelling i }
 
-drop_all : (bs : List ℕ) → drop (length bs) bs ≡ []
-drop_all [] = refl
-drop_all (b ∷ bs) = drop_all bs
-
--- the items from one place of the bytes to another, each where the one before it ends
-abbrev pub Walked : List ℕ → ℕ → List Part → ℕ → Type 0
-Walked bs from [] to = from ≡ to
-Walked bs from (p ∷ ps) to =
-    (p.place ≡ from) × (p.bytes ++ drop (from + length p.bytes) bs ≡ drop from bs) × Form p.kind p.bytes (drop (from + length p.bytes) bs) × Walked bs (from + length p.bytes) ps to
-
-walked_more : (bs : List ℕ) (from : ℕ) (ps : List Part) (to on : ℕ) (i : Item) → Walked bs from ps to → Handed bs to on i → Walked bs from (ps ++ part_of i ∷ []) on
-walked_more bs from [] to on i w h =
-    let e : from + length (spelling i) ≡ on = ap (λ (n : ℕ). n + length (spelling i)) w ∙ sym h.on in
-    (h.place ∙ sym w, ap (λ (n : ℕ). spelling i ++ drop n bs) e ∙ h.part ∙ ap (λ (n : ℕ). drop n bs) (sym w), subst (λ (n : ℕ). Form i.kind (spelling i) (drop n bs)) (sym e) h.form, e)
-walked_more bs from (p ∷ ps) to on i w h = (w.0, w.1, w.2, walked_more bs (from + length p.bytes) ps to on i w.3 h)
-
-cut_from : (bs : List ℕ) (from : ℕ) (ps : List Part) → Walked bs from ps (length bs) → Cut from ps (drop from bs)
-cut_from bs from [] w = ap (λ (n : ℕ). drop n bs) w ∙ drop_all bs
-cut_from bs from (p ∷ ps) w = (w.0, drop (from + length p.bytes) bs, sym w.1, w.2, cut_from bs (from + length p.bytes) ps w.3)
-
--- a walk that came to its end has cut all the bytes
-pub walked_all : (bs : List ℕ) (ps : List Part) → Walked bs 0 ps (length bs) → Cut 0 ps bs
-walked_all bs ps w = cut_from bs 0 ps w
-
--- so many items so far, at most one a byte
-abbrev pub Sofar : List ℕ → ℕ → ℕ → Type 0
-Sofar bs n to = (ps : List Part) × (length ps ≡ n) × Walked bs 0 ps to × (n ≤ to)
-
-pub sofar_more : (bs : List ℕ) (n to on : ℕ) (i : Item) → Sofar bs n to → Handed bs to on i → Sofar bs (n + 1) on
-sofar_more bs n to on i (ps, e, w, le) h =
-    (ps ++ part_of i ∷ [], length-append ps _ ∙ ap (λ (m : ℕ). m + 1) e, walked_more bs 0 ps to on i w h, omega (arith, h.on, h.some))
-
-pub handed_at : {bs cs : List ℕ} {from to : ℕ} {i : Item} → bs ≡ cs → Handed bs from to i → Handed cs from to i
-handed_at {from = from} {to = to} {i = i} e h = subst (λ (z : List ℕ). Handed z from to i) e h
+-- the items that came to the end are all of the bytes, in order
+pub gives_cut : (s t u : Items) (is : List Item) → Yields GivesItem s is t → GivesItem t None u → Cut s.place (map part_of is) (drop s.place s.bytes.now)
+gives_cut s t u [] e (same, end) = subst (λ (s : Items). drop s.place s.bytes.now ≡ []) (sym e) (ap (λ (n : ℕ). drop n t.bytes.now) end.ends ∙ drop-length t.bytes.now)
+gives_cut s t u (i ∷ is) (j, (same, h), more) end =
+    let others : Cut j.place (map part_of is) (drop j.place s.bytes.now) = subst (λ (bs : List ℕ). Cut j.place (map part_of is) (drop j.place bs)) same (gives_cut j t u is more end) in
+    (h.place, drop j.place s.bytes.now, sym h.part, h.form, subst (λ (n : ℕ). Cut n (map part_of is) (drop j.place s.bytes.now)) h.on others)
 
 -- the bytes behind an item perform as from rest; behind an unfinished one there are none
 behind_performs : (k : Kind) (x r : List ℕ) → Form k x r → performed (standing_after rest x) r ≡ performed rest r

@@ -4,11 +4,12 @@ pub mod Steps
 pub mod Numbers
 pub mod Requests
 pub mod Laws
-pub mod Sound
 pub mod Meaning
 pub mod Classes
 pub mod Items
+pub mod Names
 pub mod Performs
 pub mod Walks
+pub mod Giving
 pub mod Telling
 pub mod Table

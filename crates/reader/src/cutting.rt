@@ -24,17 +24,17 @@ pub enum Class {
 fn belongs(class: Class, byte: u8) -> bool
     ensures { result ≡ member class byte }
 {
-    match (class, byte) {
-        (Class::Graphic, 0x20..=0x7E | 0xA0..=0xFF) => true,
-        (Class::Intermediate, 0x20..=0x2F) => true,
-        (Class::Parameter, 0x30..=0x3F) => true,
-        (Class::Body, 0x08..=0x0D | 0x20..=0x7E) => true,
-        (Class::EscapeFinal, 0x30..=0x7E) => true,
-        (Class::SequenceFinal, 0x40..=0x7E) => true,
-        (Class::Opener, 0x90 | 0x9D..=0x9F) => true,
-        (Class::EscapedOpener, 0x50 | 0x5D..=0x5F) => true,
-        (_, _) => false,
-    }
+    matches!(
+        (class, byte),
+        (Class::Graphic, 0x20..=0x7E | 0xA0..=0xFF)
+            | (Class::Intermediate, 0x20..=0x2F)
+            | (Class::Parameter, 0x30..=0x3F)
+            | (Class::Body, 0x08..=0x0D | 0x20..=0x7E)
+            | (Class::EscapeFinal, 0x30..=0x7E)
+            | (Class::SequenceFinal, 0x40..=0x7E)
+            | (Class::Opener, 0x90 | 0x9D..=0x9F)
+            | (Class::EscapedOpener, 0x50 | 0x5D..=0x5F)
+    )
 }
 
 // The longest run of the class at the front, and what follows it.
@@ -43,10 +43,10 @@ fn run<'a>(class: Class, bytes: &'a [u8]) -> (&'a [u8], &'a [u8])
     ensures all { AllOf (member class) result.0.now }
     ensures stops { Stops (member class) result.1.now }
 {
-    let mut n = 0;
-    while n < bytes.len() && belongs(class, bytes[n]) {
-        n += 1;
-    }
+    let n = bytes
+        .iter()
+        .take_while(|byte| belongs(class, **byte))
+        .count();
     bytes.split_at(n)
 }
 
@@ -112,7 +112,7 @@ fn sos<'a>(rest: &'a [u8]) -> (Kind, &'a [u8])
         if let Some(after) = after_control(0x9C, tail) {
             return (Kind::String, after);
         }
-        if let Some(_) = after_control(0x98, tail) {
+        if after_control(0x98, tail).is_some() {
             return (Kind::Broken, tail);
         }
         match tail {
@@ -159,16 +159,24 @@ impl<'a> Items<'a> {
     pub fn new(bytes: &'a [u8]) -> Items<'a>
         ensures bytes { result.bytes.now ≡ bytes.now }
         ensures place { result.place ≡ 0 }
+        ensures performs { ItemsPerform }
     {
         Items { bytes, place: 0 }
     }
+}
+
+impl<'a> Iterator for Items<'a> {
+    ghost use Rattle.std.specs.Iterator.{at_most};
+    ghost use Rattle.reader.specs.Giving.{GivesItem, bytes_left};
+
+    type Item = Item<'a>;
+
+    ghost next_gives = { GivesItem };
+
+    ghost remaining = { λ items. at_most (bytes_left items) };
 
     // The next item, or none at the end of the bytes.
-    pub fn next(&mut self) -> Option<Item<'a>>
-        ensures bytes { self.new.bytes.now ≡ self.old.bytes.now }
-        ensures item { MatchOption result (Ended self.old.bytes.now self.old.place self.new.place) (λ i. Handed self.old.bytes.now self.old.place self.new.place i) }
-        ensures performs { ItemsPerform }
-    {
+    fn next(&mut self) -> Option<Item<'a>> {
         let bytes = self.bytes;
         let place = self.place;
         let (_, left) = bytes.split_at(place);
@@ -191,10 +199,5 @@ pub fn count_items(bytes: &[u8]) -> usize
     ensures performs { CutsPerform }
     ensures unfinished { RestIsUnfinished }
 {
-    let mut items = Items::new(bytes);
-    let mut n = 0;
-    while let Some(_) = items.next() {
-        n += 1;
-    }
-    n
+    Items::new(bytes).count()
 }

@@ -1,27 +1,21 @@
 // Parameter strings, byte by byte.
 ghost use Rattle.std.specs.Prelude.{◌≡◌, ℕ, ◌+◌, ◌<◌, ◌≤◌, [], Some};
 ghost use Rattle.reader.specs.Steps.{grown as grows, with_digit, with_separator, bounded, with_byte, only_if};
-ghost use Rattle.reader.specs.Sound.{count_of};
 ghost use Rattle.reader.specs.Meaning.{listed, parameters_in};
 
 use crate::parameters::Parameters;
 
 // The parameters with one more byte of their string; none where a bound is broken.
 pub(crate) fn read_parameter(parameters: Option<Parameters>, byte: u8) -> Option<Parameters>
-    requires { count_of parameters ≤ 16 }
-    ensures count { count_of result ≤ 16 }
-    ensures is { parameters_in result ≡ with_byte (parameters_in parameters) byte }
+    ensures { parameters_in result ≡ with_byte (parameters_in parameters) byte }
 {
-    match parameters {
-        Some(mut known) => { if known.read(byte) { Some(known) } else { None } }
-        None => None,
-    }
+    let mut known = parameters?;
+    known.read(byte).then_some(known)
 }
 
 impl Parameters {
     pub(crate) fn none() -> Parameters
-        ensures count { result.count ≡ 0 }
-        ensures is { listed result ≡ [] }
+        ensures { listed result ≡ [] }
     {
         Parameters {
             numbers: [None; 16],
@@ -33,19 +27,12 @@ impl Parameters {
     pub fn listed(&self) -> &[Option<u16>]
         ensures { result.now ≡ listed self.now }
     {
-        let numbers: &[Option<u16>] = &self.numbers;
-        if self.count < numbers.len() {
-            &numbers[..self.count]
-        } else {
-            numbers
-        }
+        &self.numbers[..self.count]
     }
 
     // Takes one more byte of the string, and answers whether the parameters are still within the bounds.
     pub(crate) fn read(&mut self, byte: u8) -> bool
-        requires { self.old.count ≤ 16 }
-        ensures count { self.new.count ≤ 16 }
-        ensures is { only_if result (listed self.new) ≡ with_byte (Some (listed self.old)) byte }
+        ensures { only_if result (listed self.new) ≡ with_byte (Some (listed self.old)) byte }
     {
         match byte {
             0x30..=0x39 => {
@@ -59,38 +46,22 @@ impl Parameters {
 
     // A digit goes to the last parameter, or begins the first.
     fn add_digit(&mut self, digit: u16)
-        requires count { self.old.count ≤ 16 }
-        requires one { digit < 10 }
-        ensures count { self.new.count ≤ 16 }
-        ensures is { listed self.new ≡ with_digit (listed self.old) digit }
+        requires { digit < 10 }
+        ensures { listed self.new ≡ with_digit (listed self.old) digit }
     {
-        if self.count == 0 {
-            self.numbers[0] = Some(digit);
-            self.count = 1;
-        } else {
-            let at = self.count - 1;
-            let number = grown(self.numbers[at], digit);
-            self.numbers[at] = Some(number);
-        }
+        self.count = self.count.max(1);
+        let last = self.count - 1;
+        self.numbers[last] = Some(grown(self.numbers[last], digit));
     }
 
     // A separator stands after a parameter, and begins one more; false where there is no room for it.
     fn add_separator(&mut self) -> bool
-        requires { self.old.count ≤ 16 }
-        ensures count { self.new.count ≤ 16 }
-        ensures is { only_if result (listed self.new) ≡ bounded (with_separator (listed self.old)) }
+        ensures { only_if result (listed self.new) ≡ bounded (with_separator (listed self.old)) }
     {
-        let slots: &[Option<u16>] = &self.numbers;
-        if self.count >= slots.len() {
+        if self.count == self.numbers.len() {
             return false;
         }
-        if self.count == 0 {
-            self.numbers[0] = None;
-            self.count = 1;
-        }
-        let at = self.count;
-        self.numbers[at] = None;
-        self.count = at + 1;
+        self.count = self.count.max(1) + 1;
         true
     }
 }

@@ -1,13 +1,11 @@
-ghost use Rattle.std.specs.Prelude.{◌≡◌, ◌≤◌};
-ghost use Rattle.reader.specs.Sound.{count_in};
+ghost use Rattle.std.specs.Prelude.{◌≡◌};
 
 use crate::standing::Standing;
 
 // Reads bytes one by one. It is one value, changed in place, and allocates nothing.
-#[derive(Clone, Copy)]
+#[derive(Clone, Copy, Debug, PartialEq, Eq)]
 pub struct Reader {
     pub(crate) standing: Standing,
-    ghost sound: { count_in standing ≤ 16 },
 }
 
 impl Reader {

@@ -1,6 +1,6 @@
 // The stepper: what each byte does at each standing.
 ghost use Rattle.std.specs.Prelude.{◌≡◌, ℕ, ◌+◌, ◌<◌, ◌≤◌, length, Some};
-ghost use Rattle.reader.specs.Steps.{rest, step as steps, at_rest, resting, sequence_final, standing_after, performed};
+ghost use Rattle.reader.specs.Steps.{rest, step as steps, at_rest, sequence_final, standing_after, performed};
 ghost use Rattle.reader.specs.Requests.{is_report, any_requests, until_request};
 ghost use Rattle.reader.specs.Laws.{ReadsInParts, ReadsNumbers, ReadsReset, StandingsDiffer, StopsAtRequest};
 ghost use Rattle.reader.specs.Table.{BytesByStanding};
@@ -87,11 +87,7 @@ impl Reader {
                 NOTHING
             }
             // what does not fit is read as at rest
-            (Standing::Rest, _) => self.at_rest(byte),
-            (Standing::Escape { .. }, _) => self.at_rest(byte),
-            (Standing::Sequence { .. }, _) => self.at_rest(byte),
-            (Standing::Intermediates { .. }, _) => self.at_rest(byte),
-            (Standing::CommandString, _) => self.at_rest(byte),
+            _ => self.at_rest(byte),
         }
     }
 
@@ -129,7 +125,7 @@ impl Reader {
     {
         let mut count = 0;
         for byte in bytes {
-            if let Some(_) = self.step(*byte).function {
+            if self.step(*byte).function.is_some() {
                 count += 1;
             }
         }
@@ -150,16 +146,10 @@ impl Reader {
         bytes.len()
     }
 
+    #[tactic(auto, unfolding(crate::specs::Steps::at_rest))]
     fn at_rest(&mut self, byte: u8) -> Completed
         ensures standing { standing_of self.new.standing ≡ (at_rest byte).standing }
         ensures completes { functions_of result ≡ (at_rest byte).performs }
-    {
-        self.begin(byte)
-    }
-
-    fn begin(&mut self, byte: u8) -> Completed
-        ensures standing { standing_of self.new.standing ≡ (resting byte).standing }
-        ensures completes { functions_of result ≡ (resting byte).performs }
     {
         self.standing = Standing::Rest;
         match byte {
@@ -216,25 +206,15 @@ fn finished(parameters: Option<Parameters>, space: bool, final_byte: u8) -> Comp
 fn requests_reply(completed: Completed) -> bool
     ensures { result ≡ any_requests (functions_of completed) }
 {
-    match completed.function {
-        Some(
-            Function::Sequence(
-                Sequence {
-                    parameters,
-                    space: false,
-                    final_byte: 0x6E,
-                },
-            ),
-        ) => is_report(parameters.listed()),
-        _ => false,
-    }
+    matches!(
+        completed.function,
+        Some(Function::Sequence(Sequence { parameters, space: false, final_byte: 0x6E }))
+            if is_report(parameters.listed())
+    )
 }
 
 fn is_report(parameters: &[Option<u16>]) -> bool
     ensures { result ≡ is_report parameters.now }
 {
-    match parameters {
-        [Some(5 | 6)] => true,
-        _ => false,
-    }
+    matches!(parameters, [Some(5 | 6)])
 }

@@ -4,7 +4,7 @@
 // any more has forgotten its numbers, and the four command strings are one standing.
 use crate::parameters::Parameters;
 
-#[derive(Clone, Copy)]
+#[derive(Clone, Copy, Debug, PartialEq, Eq)]
 pub enum Standing {
     Rest,
     // after ESC, and whether intermediate bytes were read

@@ -41,10 +41,10 @@ fn performed_sequence(bytes: &[u8]) -> Option<Sequence>
     let mut reader = Reader::new();
     let mut told = None;
     for byte in bytes {
-        match (told, reader.step(*byte).function) {
-            (_, None) => {}
-            (None, Some(function)) => told = Some(function),
-            (Some(_), Some(_)) => return None,
+        if let Some(function) = reader.step(*byte).function {
+            if told.replace(function).is_some() {
+                return None;
+            }
         }
     }
     as_sequence(told)
@@ -71,10 +71,7 @@ fn string_parts<'a>(bytes: &'a [u8]) -> Option<ControlString<'a>>
 fn opens_string(control: u8) -> bool
     ensures { result ≡ opens_string control }
 {
-    match control {
-        0x90 | 0x98 | 0x9D..=0x9F => true,
-        _ => false,
-    }
+    matches!(control, 0x90 | 0x98 | 0x9D..=0x9F)
 }
 
 // What opens a string, by its 8-bit code, and what follows it.
@@ -94,17 +91,9 @@ fn after_opener<'a>(bytes: &'a [u8]) -> Option<(u8, &'a [u8])>
 fn before_st<'a>(bytes: &'a [u8]) -> Option<&'a [u8]>
     ensures { MatchOption result ((body : List ℕ) → Closed bytes.now body → ⊥) (λ body. Closed bytes.now body.now) }
 {
-    if let Some(body) = before(0x9C, bytes) {
-        return Some(body);
+    match bytes {
+        [body @ .., 0x9C] => Some(body),
+        [body @ .., 0x1B, 0x5C] => Some(body),
+        _ => None,
     }
-    let front = before(0x5C, bytes)?;
-    before(0x1B, front)
-}
-
-// What stands before the byte at the end.
-fn before<'a>(byte: u8, bytes: &'a [u8]) -> Option<&'a [u8]>
-    ensures { MatchOption result ((front : List ℕ) → bytes.now ≢ front ++ byte ∷ []) (λ front. bytes.now ≡ front.now ++ byte ∷ []) }
-{
-    let (last, front) = bytes.split_last()?;
-    if *last == byte { Some(front) } else { None }
 }

@@ -5,7 +5,7 @@
 #[cfg(test)]
 mod tests {
     use reader::function::{Completed, Function};
-    use reader::item::{Item, Items, Kind};
+    use reader::item::{ControlString, Item, Items, Kind};
     use reader::reader::Reader;
     use reader::standing::Standing;
     use std::process::Abort;
@@ -166,30 +166,18 @@ mod tests {
         check_sequence(&rt, Kind::Broken, b"\x1b[H", None)
     }
 
-    fn check_string(
-        rt: &impl Abort,
-        kind: Kind,
-        bytes: &[u8],
-        expected: Option<(u8, &[u8])>,
-    ) -> Result<(), Fail> {
+    fn check_string(rt: &impl Abort, kind: Kind, bytes: &[u8], expected: Option<(u8, &[u8])>) {
         let item = Item {
             kind,
             place: 0,
             bytes,
         };
-        match (item.string(), expected) {
-            (Some(string), Some((opener, body))) => {
-                assert_eq!(rt; string.opener, opener);
-                assert_eq!(rt; string.body, body);
-                Ok(())
-            }
-            (None, None) => Ok(()),
-            _ => Err(Fail::new("a string is told or not")),
-        }
+        let expected = expected.map(|(opener, body)| ControlString { opener, body });
+        assert_eq!(rt; item.string(), expected);
     }
 
     #[test]
-    fn strings_are_told(rt: HostRuntime) -> Result<(), Fail> {
+    fn strings_are_told(rt: HostRuntime) {
         let rows: [(&[u8], Option<(u8, &[u8])>); 16] = [
             (b"\x90ab\x9c", Some((0x90, b"ab"))),
             (b"\x98ab\x9c", Some((0x98, b"ab"))),
@@ -210,9 +198,9 @@ mod tests {
             (b"\x90", None),
         ];
         for (bytes, expected) in rows {
-            check_string(&rt, Kind::String, bytes, expected)?;
+            check_string(&rt, Kind::String, bytes, expected);
         }
-        check_string(&rt, Kind::Broken, b"\x90ab\x9c", None)
+        check_string(&rt, Kind::Broken, b"\x90ab\x9c", None);
     }
 
     fn mark_of_standing(standing: Standing) -> u8 {
@@ -329,10 +317,7 @@ mod tests {
             let first = reader.read(front);
             let second = reader.read(back);
             assert_eq!(rt; first.wrapping_add(second), functions);
-            assert_eq!(rt;
-                mark_of_standing(reader.standing()),
-                mark_of_standing(whole.standing())
-            );
+            assert_eq!(rt; reader, whole);
         }
     }
 }

@@ -10,14 +10,11 @@ returns-in-Some c =
     let st = c.in-Some.ensures.1 in
     sos_whole _ _ st.0 _ c.loop-after.invariant st.1 st.2
 
-pub returns-in-Some-after_control : goal.returns-in-Some-after_control
-returns-in-Some-after_control c = sos_broken _ _ c.loop-after.invariant c.in-Some-after_control.ensures.0
+pub returns-then-is_some : goal.returns-then-is_some
+returns-then-is_some c = sos_broken _ _ c.loop-after.invariant (search rules)
 
 pub returns-in-empty : goal.returns-in-empty
 returns-in-empty c = sos_rest _ c.loop-after.tail.now c.loop-after.invariant (search rules)
 
-pub loop-after-smaller : goal.loop-after-smaller
-loop-after-smaller c = search rules
-
 pub loop-after-preserved : goal.loop-after-preserved
-loop-after-preserved c = sofar_more _ _ _ _ c.loop-after.invariant (pattern_one c.loop-after.tail.now (search rules)) c.in_default.ensures c.in_default-after_control.ensures
+loop-after-preserved c = sofar_more _ _ _ _ c.loop-after.invariant (pattern_one c.loop-after.tail.now (search rules)) c.in_default.ensures (search rules)

@@ -1,9 +1,6 @@
-use Rattle.std.proofs.Common.{arith, rules}
-use Rattle.reader.proofs.Listed.{digit_first, digit_at}
+use Rattle.std.proofs.Common.{rules}
+use Rattle.reader.proofs.Listed.{digit_last}
 use Rattle.reader.proofs.parameters.Parameters.add_digit.Goals as goal
 
-pub returns-then-self-eq0 : goal.returns-then-self-eq0
-returns-then-self-eq0 c = record { count = omega arith; is = digit_first _ _ _ (omega arith) c.if-self-eq0.true }
-
-pub returns-else-self-eq0 : goal.returns-else-self-eq0
-returns-else-self-eq0 c = record { count = search rules; is = digit_at _ _ _ _ c.if-self-eq0.false (omega arith) c.grown-number.ensures }
+pub returns : goal.returns
+returns c = rw c.grown.ensures (digit_last c.args.self.now.numbers c.args.self.now.count _ c.args.digit c.max-self.ensures c.args.self.now.within (search rules) c.args.self.now.unused)
