@@ -114,8 +114,7 @@ impl<P: Panel> Sheet<P> {
             code,
             rendition: self.state.rendition_number,
         };
-        let at = self.state.position;
-        let _ = self.panel.set(at.line, at.column, cell);
+        let _ = self.panel.set(self.state.position, cell);
         self.state.advance();
     }
 

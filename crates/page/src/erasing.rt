@@ -36,11 +36,11 @@ impl<P: Panel> Sheet<P> {
         ensures { placed self.new.state (P.Panel.shows self.new.panel) ≡ upon (erase_in_page extent) (placed self.old.state (P.Panel.shows self.old.panel)) }
     {
         let state = &self.state;
-        let Position { line, column } = state.position;
+        let start = Position { line: 1, column: 1 };
         let _ = match extent {
-            Extent::ToEnd => self.panel.erase(line, column, state.cells() - state.here()),
-            Extent::FromStart => self.panel.erase(1, 1, state.here() + 1),
-            Extent::All => self.panel.erase(1, 1, state.cells()),
+            Extent::ToEnd => self.panel.erase(state.position, state.cells() - state.here()),
+            Extent::FromStart => self.panel.erase(start, state.here() + 1),
+            Extent::All => self.panel.erase(start, state.cells()),
         };
     }
 
@@ -49,10 +49,11 @@ impl<P: Panel> Sheet<P> {
     {
         let state = &self.state;
         let Position { line, column } = state.position;
+        let start = Position { line, column: 1 };
         let _ = match extent {
-            Extent::ToEnd => self.panel.erase(line, column, state.to_edge() as usize),
-            Extent::FromStart => self.panel.erase(line, 1, column as usize),
-            Extent::All => self.panel.erase(line, 1, state.size.columns as usize),
+            Extent::ToEnd => self.panel.erase(state.position, state.to_edge() as usize),
+            Extent::FromStart => self.panel.erase(start, column as usize),
+            Extent::All => self.panel.erase(start, state.size.columns as usize),
         };
     }
 
@@ -60,8 +61,7 @@ impl<P: Panel> Sheet<P> {
     pub(crate) fn erase_characters(&mut self, n: u16)
         ensures { placed self.new.state (P.Panel.shows self.new.panel) ≡ upon (erase_characters n) (placed self.old.state (P.Panel.shows self.old.panel)) }
     {
-        let Position { line, column } = self.state.position;
         let count = n.min(self.state.to_edge());
-        let _ = self.panel.erase(line, column, count as usize);
+        let _ = self.panel.erase(self.state.position, count as usize);
     }
 }
