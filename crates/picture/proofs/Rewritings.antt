@@ -1,5 +1,6 @@
 -- A sequence that was read within the bounds can be written.
 use Rattle.std.proofs.Common.{◌≡◌, ℕ, Bool, true, false, cond, ◌&&◌, eqb, leb, List, [], ◌∷◌, map, length, Some, None, Err, Result, sym, refl, ap, ◌∙◌, subst, ⊎_elim, arith}
+use Rattle.std.specs.List.{list_all}
 use Rattle.std.proofs.lemmas.List.{length-map}
 use Rattle.std.proofs.lemmas.Bool.{true≢false, and_parts, and_from, le-leb, cases_Bool, cond-true, cond-false}
 use Rattle.reader.specs.Bytes.{is_separator, ends_sequence}
@@ -8,7 +9,7 @@ use Rattle.reader.specs.Numbers.{onto, parts, value, plain, numbers, sequence_pe
 use Rattle.refusal.specs.declared.Refusal.{Refusal}
 use Rattle.refusal.specs.declared.Refusal.TheVariants.{OutOfRange}
 use Rattle.picture.specs.Writing.{written}
-use Rattle.picture.specs.Writes.{Writes, every, is_small, is_told, is_sequence, is_rewritable, rewritten}
+use Rattle.picture.specs.Writes.{Writes, is_small, is_told, is_sequence, is_rewritable, rewritten}
 use Rattle.picture.proofs.Fronts.{out_of_range}
 use Rattle.picture.specs.Reads.{SequenceRewrites}
 
@@ -52,7 +53,7 @@ value_small : (p : List ℕ) → is_small (value p) ≡ true
 value_small [] = refl
 value_small (d ∷ ds) = le-leb _ 9999 (omega arith)
 
-all_small : (l : List (List ℕ)) → every is_small (map value l) ≡ true
+all_small : (l : List (List ℕ)) → list_all is_small (map value l) ≡ true
 all_small [] = refl
 all_small (p ∷ l) = and_from (is_small (value p)) _ (value_small p) (all_small l)
 
@@ -82,7 +83,7 @@ is_there (Some ps) = true
 
 -- what is left of the range beside the final byte
 abbrev Fine : List Parameter → Type 0
-Fine ps = (leb (length ps) 16 ≡ true) × ((every is_small ps ≡ true) × (is_told ps ≡ true))
+Fine ps = (leb (length ps) 16 ≡ true) × ((list_all is_small ps ≡ true) × (is_told ps ≡ true))
 
 fine_parts : (b : ℕ) (bs : List ℕ) (ps : List Parameter) (t : Bool) → (plain (b ∷ bs) && leb (length (parts (b ∷ bs))) 16) ≡ t → cond t (Some (map value (parts (b ∷ bs)))) None ≡ Some ps → Fine ps
 fine_parts b bs ps true h e =
