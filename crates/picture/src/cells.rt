@@ -11,7 +11,7 @@ use crate::places::{cell_of, count_cells, spot_at};
 use crate::renditions::put_sgr;
 use crate::stops::put_cup;
 use control::rendition::Rendition;
-use panel::{Cell, Panel};
+use panel::{Cell, ERASED, Panel};
 
 // What the next cell depends on: whether the one before it is erased, and the rendition last written.
 #[derive(Clone, Copy)]
@@ -23,7 +23,7 @@ pub struct Pen {
 fn is_erased(cell: Cell) -> bool
     ensures { result ≡ is_erased cell }
 {
-    cell.code == 0 && cell.rendition == 0
+    cell == ERASED
 }
 
 fn put_cup_if(out: &mut Out, wanted: bool, line: u16, column: u16)

@@ -1,7 +1,5 @@
 // The picture of a page and its panel.
 ghost use Rattle.std.specs.Prelude.{◌≡◌, true, length};
-ghost use Rattle.reader.specs.Steps.{is_at_rest};
-ghost use Rattle.reader.specs.Meaning.{standing_of};
 ghost use Rattle.page.specs.Plain.{plain};
 ghost use Rattle.picture.specs.Views.{seen, is_of_size};
 ghost use Rattle.picture.specs.Calls.{Does, draws, pictures};
@@ -12,25 +10,9 @@ use crate::front::write_front;
 use crate::places::spot_at;
 use page::page::Page;
 use page::view::View;
-use panel::{Panel, Size};
+use panel::Panel;
 use reader::standing::Standing;
 use refusal::Refusal;
-
-fn is_of_size<P: Panel>(view: &View, panel: &P) -> bool
-    ensures { result ≡ is_of_size view.now (P.Panel.shows panel.now).grid }
-{
-    let Size { lines, columns } = panel.size();
-    view.size.lines == lines && view.size.columns == columns
-}
-
-fn is_at_rest(standing: Standing) -> bool
-    ensures { result ≡ is_at_rest (standing_of standing) }
-{
-    match standing {
-        Standing::Rest => true,
-        _ => false,
-    }
-}
 
 // The bytes, or the first cell that no bytes could have put there.
 fn draw<P: Panel>(view: &View, panel: &P, buffer: &mut [u8]) -> Result<usize, Refusal>
@@ -52,13 +34,13 @@ fn draw<P: Panel>(view: &View, panel: &P, buffer: &mut [u8]) -> Result<usize, Re
 fn show<P: Panel>(view: &View, panel: &P, buffer: &mut [u8]) -> Result<usize, Refusal>
     ensures { Does (pictures (length buffer.old) (seen view.now (P.Panel.shows panel.now).grid)) result (seen view.now (P.Panel.shows panel.now).grid) buffer.old buffer.new }
 {
-    if !is_of_size(view, panel) {
+    if view.size != panel.size() {
         return Err(Refusal::OtherPanel);
     }
     if view.owed.is_some() {
         return Err(Refusal::ReplyOwed);
     }
-    if !is_at_rest(view.standing) {
+    if !matches!(view.standing, Standing::Rest) {
         return Err(Refusal::Unfinished);
     }
     draw(view, panel, buffer)

@@ -12,7 +12,7 @@ ghost use Rattle.turns.specs.Laws.{Admitted, PictureRestores};
 
 use page::page::Page;
 use page::view::View;
-use panel::{Panel, Size};
+use panel::Panel;
 use picture::picture;
 use reader::standing::Standing;
 use refusal::Refusal;
@@ -20,35 +20,23 @@ use refusal::Refusal;
 pub(crate) fn of_one_size<P: Panel, Q: Panel>(one: &P, other: &Q) -> Result<(), Refusal>
     ensures { answer result ≡ size_answer (P.Panel.shows one.now).grid (Q.Panel.shows other.now).grid }
 {
-    let Size { lines, columns } = one.size();
-    let size = other.size();
-    if lines == size.lines && columns == size.columns {
+    if one.size() == other.size() {
         Ok(())
     } else {
         Err(Refusal::OtherPanel)
     }
 }
 
-fn is_in_sos(standing: Standing) -> bool
-    ensures { result ≡ is_in_sos (standing_of standing) }
-{
-    match standing {
-        Standing::Sos { .. } => true,
-        _ => false,
-    }
-}
-
 fn view_takes_picture<P: Panel>(view: &View, panel: &P) -> Result<(), Refusal>
     ensures { answer result ≡ takes_picture (seen view.now (P.Panel.shows panel.now).grid) }
 {
-    let Size { lines, columns } = panel.size();
-    if !(view.size.lines == lines && view.size.columns == columns) {
+    if view.size != panel.size() {
         return Err(Refusal::OtherPanel);
     }
     if view.owed.is_some() {
         return Err(Refusal::ReplyOwed);
     }
-    if is_in_sos(view.standing) {
+    if matches!(view.standing, Standing::Sos { .. }) {
         return Err(Refusal::Unfinished);
     }
     Ok(())
