@@ -7,11 +7,11 @@ ghost use Rattle.picture.specs.Pictures.{cells_from, when, cup, sgr, is_erased, 
 ghost use Rattle.picture.specs.Pens.{starts, shown_functions, cell_functions, pen_after};
 
 use crate::out::Out;
-use crate::places::{cell_of, count_cells, spot_at};
+use crate::places::{cell_of, count_cells, position_at};
 use crate::renditions::put_sgr;
 use crate::stops::put_cup;
 use control::rendition::Rendition;
-use panel::{Cell, ERASED, Panel};
+use panel::{Cell, ERASED, Panel, Position};
 
 // What the next cell depends on: whether the one before it is erased, and the rendition last written.
 #[derive(Clone, Copy)]
@@ -26,11 +26,11 @@ fn is_erased(cell: Cell) -> bool
     cell == ERASED
 }
 
-fn put_cup_if(out: &mut Out, wanted: bool, line: u16, column: u16)
-    ensures { Draws (tape out.old) (when wanted (cup line column)) (tape out.new) }
+fn put_cup_if(out: &mut Out, wanted: bool, at: Position)
+    ensures { Draws (tape out.old) (when wanted (cup at.line at.column)) (tape out.new) }
 {
     if wanted {
-        put_cup(out, line, column);
+        put_cup(out, at);
     }
 }
 
@@ -61,19 +61,19 @@ fn is_start(pen: Pen, column: u16) -> bool
     pen.gap || column == 1
 }
 
-fn put_shown(out: &mut Out, pen: Pen, cell: Cell, line: u16, column: u16)
+fn put_shown(out: &mut Out, pen: Pen, cell: Cell, at: Position)
     requires { cell.rendition < 34992 }
-    ensures { Draws (tape out.old) (shown_functions pen cell line column) (tape out.new) }
+    ensures { Draws (tape out.old) (shown_functions pen cell at.line at.column) (tape out.new) }
 {
-    put_cup_if(out, is_start(pen, column), line, column);
+    put_cup_if(out, is_start(pen, at.column), at);
     put_rendition_if(out, cell.rendition != pen.rendition, cell.rendition);
     out.put(cell.code);
 }
 
 // Puts a cell unless it is erased, and answers what the next depends on.
-fn put_cell(out: &mut Out, pen: Pen, cell: Cell, line: u16, column: u16) -> Pen
+fn put_cell(out: &mut Out, pen: Pen, cell: Cell, at: Position) -> Pen
     requires { cell.rendition < 34992 }
-    ensures lays { Draws (tape out.old) (cell_functions pen cell line column) (tape out.new) }
+    ensures lays { Draws (tape out.old) (cell_functions pen cell at.line at.column) (tape out.new) }
     ensures pen { result ≡ pen_after pen cell }
 {
     if is_erased(cell) {
@@ -82,7 +82,7 @@ fn put_cell(out: &mut Out, pen: Pen, cell: Cell, line: u16, column: u16) -> Pen
             rendition: pen.rendition,
         };
     }
-    put_shown(out, pen, cell, line, column);
+    put_shown(out, pen, cell, at);
     Pen {
         gap: false,
         rendition: cell.rendition,
@@ -99,8 +99,8 @@ pub(crate) fn put_cells<P: Panel>(out: &mut Out, panel: &P)
         rendition: 0,
     };
     for k in 0..count_cells(panel) {
-        let spot = spot_at(panel, k);
+        let at = position_at(panel, k);
         let cell = cell_of(panel, k);
-        pen = put_cell(out, pen, cell, spot.line, spot.column);
+        pen = put_cell(out, pen, cell, at);
     }
 }

@@ -11,7 +11,7 @@ use crate::out::{ESC, Out};
 use crate::renditions::put_sgr;
 use crate::stops::{Along, put_cup, put_stops};
 use page::view::View;
-use panel::Panel;
+use panel::{Panel, Position};
 
 fn put_one(out: &mut Out, n: u16, final_byte: u8)
     ensures { Draws (tape out.old) (numbered (n ∷ []) final_byte ∷ []) (tape out.new) }
@@ -44,7 +44,11 @@ fn put_ending(out: &mut Out, view: &View)
     put_mode_if(out, view.modes.insertion, 4);
     put_mode_if(out, view.modes.combination, 21);
     put_sgr(out, view.rendition);
-    put_cup(out, view.position.line, view.position.column);
+    let at = Position {
+        line: view.position.line,
+        column: view.position.column,
+    };
+    put_cup(out, at);
 }
 
 // All behind RIS; the cells are the panel's, which is of the page's size.

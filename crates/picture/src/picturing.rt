@@ -7,10 +7,10 @@ ghost use Rattle.picture.specs.Calls.{Does, draws, pictures};
 use crate::draw::Drawing;
 use crate::foreign::find_foreign;
 use crate::front::write_front;
-use crate::places::spot_at;
+use crate::places::position_at;
 use page::page::Page;
 use page::view::View;
-use panel::Panel;
+use panel::{Panel, Position};
 use reader::standing::Standing;
 use refusal::Refusal;
 
@@ -21,11 +21,8 @@ fn draw<P: Panel>(view: &View, panel: &P, buffer: &mut [u8]) -> Result<usize, Re
 {
     match find_foreign(panel) {
         Some(k) => {
-            let spot = spot_at(panel, k);
-            Err(Refusal::ForeignCell {
-                line: spot.line,
-                column: spot.column,
-            })
+            let Position { line, column } = position_at(panel, k);
+            Err(Refusal::ForeignCell { line, column })
         }
         None => write_front(&Drawing { view, panel }, buffer),
     }

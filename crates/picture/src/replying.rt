@@ -10,18 +10,18 @@ use crate::out::Out;
 use control::function::Report;
 use page::page::Page;
 use page::view::View;
+use panel::Position;
 use refusal::Refusal;
 
 // A reply by its report, and the position that one of them tells.
 #[derive(Clone, Copy)]
 pub struct Response {
     report: Report,
-    line: u16,
-    column: u16,
+    at: Position,
 }
 
 impl Written for Response {
-    ghost bytes = { λ r. report_bytes r.report r.line r.column };
+    ghost bytes = { λ r. report_bytes r.report r.at.line r.at.column };
 
     ghost can = { λ r. Unit {0} };
 
@@ -29,7 +29,7 @@ impl Written for Response {
         match self.report {
             Report::Status => out.put_sequence(&[Some(0)], false, b'n'),
             Report::Position => out.put_sequence(
-                &[Some(self.line), Some(self.column)],
+                &[Some(self.at.line), Some(self.at.column)],
                 false,
                 b'R',
             ),
@@ -44,8 +44,10 @@ fn write_reply(view: &View, buffer: &mut [u8]) -> Result<usize, Refusal>
         Some(report) => write_front(
             &Response {
                 report,
-                line: view.position.line,
-                column: view.position.column,
+                at: Position {
+                    line: view.position.line,
+                    column: view.position.column,
+                },
             },
             buffer,
         ),

@@ -6,6 +6,7 @@ ghost use Rattle.picture.specs.Pictures.{cup, stops_from};
 ghost use Rattle.picture.specs.Pens.{stop_at, stop_if};
 
 use crate::out::{ESC, Out};
+use panel::Position;
 
 #[derive(Clone, Copy)]
 pub enum Along {
@@ -13,10 +14,10 @@ pub enum Along {
     Lines,
 }
 
-pub(crate) fn put_cup(out: &mut Out, line: u16, column: u16)
-    ensures { Draws (tape out.old) (cup line column ∷ []) (tape out.new) }
+pub(crate) fn put_cup(out: &mut Out, at: Position)
+    ensures { Draws (tape out.old) (cup at.line at.column ∷ []) (tape out.new) }
 {
-    out.put_sequence(&[Some(line), Some(column)], false, b'H');
+    out.put_sequence(&[Some(at.line), Some(at.column)], false, b'H');
 }
 
 // Goes there, and sets a stop.
@@ -25,12 +26,12 @@ fn put_stop(out: &mut Out, along: Along, k: u16)
 {
     match along {
         Along::Columns => {
-            put_cup(out, 1, k);
+            put_cup(out, Position { line: 1, column: k });
             out.put(ESC);
             out.put(b'H');
         }
         Along::Lines => {
-            put_cup(out, k, 1);
+            put_cup(out, Position { line: k, column: 1 });
             out.put(ESC);
             out.put(b'J');
         }

@@ -14,8 +14,8 @@ pub loop-k-preserved : goal.loop-k-preserved
 loop-k-preserved g c =
     let s = (g.P.Panel.shows c.args.panel.now).grid in
     let h : c.loop-k.k < length s.cells = omega (arith, c.count_cells-k-end.ensures) in
-    cells_turn s c.loop-k.k c.loop-k.pen c.put_cell-pen.result c.cell_of-cell.result c.spot_at-spot.result
-    h c.cell_of-cell.ensures c.spot_at-spot.ensures c.put_cell-pen.ensures.pen c.loop-k.invariant c.put_cell-pen.ensures.lays
+    cells_turn s c.loop-k.k c.loop-k.pen c.put_cell-pen.result c.cell_of-cell.result c.position_at-at.result
+    h c.cell_of-cell.ensures c.position_at-at.ensures c.put_cell-pen.ensures.pen c.loop-k.invariant c.put_cell-pen.ensures.lays
 
 pub returns : goal.returns
 returns g c =

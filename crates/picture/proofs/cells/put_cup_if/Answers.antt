@@ -4,4 +4,4 @@ use Rattle.picture.proofs.Draws.{draws_none, draws_as}
 use Rattle.picture.proofs.cells.put_cup_if.Goals as goal
 
 pub returns-else-wanted : goal.returns-else-wanted
-returns-else-wanted c = draws_as draws_none (sym (ap (λ b. when b (cup c.args.line c.args.column)) c.if-wanted.false))
+returns-else-wanted c = draws_as draws_none (sym (ap (λ b. when b (cup c.args.at.line c.args.at.column)) c.if-wanted.false))

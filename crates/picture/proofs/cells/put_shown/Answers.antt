@@ -8,5 +8,5 @@ use Rattle.picture.proofs.cells.put_shown.Goals as goal
 pub returns : goal.returns
 unfolding written
 returns c =
-    draws_both (draws_as c.put_cup_if.ensures (ap (λ b. when b (cup c.args.line c.args.column)) c.is_start.ensures))
+    draws_both (draws_as c.put_cup_if.ensures (ap (λ b. when b (cup c.args.at.line c.args.at.column)) c.is_start.ensures))
     (draws_both c.put_rendition_if.ensures (draws_one (graphic c.args.cell.code) c.put.ensures))

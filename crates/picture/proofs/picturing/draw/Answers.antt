@@ -3,8 +3,8 @@ use Rattle.picture.proofs.Foreigners.{first_within}
 use Rattle.picture.proofs.PictureLengths.{picture_small, fitting}
 use Rattle.picture.proofs.picturing.draw.Goals as goal
 
-pub spot_at-spot-requires : goal.spot_at-spot-requires
-spot_at-spot-requires g c = first_within (g.P.Panel.shows c.args.panel.now).grid.cells c.in-Some.k (sym c.in-Some.ensures)
+pub position_at-line-requires : goal.position_at-line-requires
+position_at-line-requires g c = first_within (g.P.Panel.shows c.args.panel.now).grid.cells c.in-Some.k (sym c.in-Some.ensures)
 
 pub write_front-requires : goal.write_front-requires
 write_front-requires g c =
