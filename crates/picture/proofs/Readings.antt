@@ -156,9 +156,6 @@ sequence_reads ps space f h =
     (by_form Sequence _ a.form _ refl e, λ after. (a.form, a.parameters, a.between, a.final))
 
 -- strings
-pub opener_high : (k : ℕ) (body : List ℕ) → is_string k body ≡ true → 64 ≤ k
-opener_high k body h = let p = (and_parts (is_opener k) (list_all is_body body) h).0 in grind (arith, nat_tests)
-
 string_form : (k : ℕ) (body : List ℕ) → is_string k body ≡ true → (i : Enclosed is_opener (AllOf is_body) (string_bytes k body)) × (i.by ≡ k) × (i.body ≡ body)
 string_form k body h =
     let p = and_parts (is_opener k) (list_all is_body body) h in (

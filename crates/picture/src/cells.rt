@@ -6,6 +6,7 @@ ghost use Rattle.picture.specs.Draws.{Draws};
 ghost use Rattle.picture.specs.Pictures.{cells_from, when, cup, sgr, is_erased, first_foreign};
 ghost use Rattle.picture.specs.Pens.{starts, shown_functions, cell_functions, pen_after};
 
+use crate::draw::Drawing;
 use crate::out::Out;
 use crate::places::{cell_of, count_cells, position_at};
 use crate::renditions::put_sgr;
@@ -89,18 +90,19 @@ fn put_cell(out: &mut Out, pen: Pen, cell: Cell, at: Position) -> Pen
     }
 }
 
-// Each cell that is not erased, of a panel without a foreign one.
-pub(crate) fn put_cells<P: Panel>(out: &mut Out, panel: &P)
-    requires { first_foreign 0 (P.Panel.shows panel.now).grid.cells ≡ None }
-    ensures { Draws (tape out.old) (cells_from (P.Panel.shows panel.now).grid.columns 0 true 0 (P.Panel.shows panel.now).grid.cells) (tape out.new) }
-{
-    let mut pen = Pen {
-        gap: true,
-        rendition: 0,
-    };
-    for k in 0..count_cells(panel) {
-        let at = position_at(panel, k);
-        let cell = cell_of(panel, k);
-        pen = put_cell(out, pen, cell, at);
+impl<P: Panel> Drawing<'_, '_, P> {
+    // Each cell that is not erased.
+    pub(crate) fn put_cells(&self, out: &mut Out)
+        ensures { Draws (tape out.old) (cells_from self.now.view.now.size.columns 0 true 0 (P.Panel.shows self.now.panel.now).grid.cells) (tape out.new) }
+    {
+        let mut pen = Pen {
+            gap: true,
+            rendition: 0,
+        };
+        for k in 0..count_cells(self.panel) {
+            let at = position_at(self.panel, k);
+            let cell = cell_of(self.panel, k);
+            pen = put_cell(out, pen, cell, at);
+        }
     }
 }

@@ -15,8 +15,6 @@ pub struct Text<'a> {
 impl Written for Text<'_> {
     ghost bytes = { λ t. t.bytes.now };
 
-    ghost can = { λ t. Unit {0} };
-
     fn put(&self, out: &mut Out) {
         out.put_all(self.bytes);
     }
@@ -29,8 +27,6 @@ pub struct Control {
 
 impl Written for Control {
     ghost bytes = { λ c. written (control c.byte) };
-
-    ghost can = { λ c. Unit {0} };
 
     fn put(&self, out: &mut Out) {
         if self.byte >= 0x80 {
@@ -52,8 +48,6 @@ pub struct Sequence<'a> {
 impl Written for Sequence<'_> {
     ghost bytes = { λ s. written (sequence s.parameters.now s.space s.final_byte) };
 
-    ghost can = { λ s. Unit {0} };
-
     fn put(&self, out: &mut Out) {
         out.put_sequence(self.parameters, self.space, self.final_byte);
     }
@@ -64,12 +58,11 @@ impl Written for Sequence<'_> {
 pub struct CommandString<'a> {
     pub opener: u8,
     pub body: &'a [u8],
+    ghost high: { 64 ≤ opener },
 }
 
 impl Written for CommandString<'_> {
     ghost bytes = { λ s. string_bytes s.opener s.body.now };
-
-    ghost can = { λ s. 64 ≤ s.opener };
 
     fn put(&self, out: &mut Out) {
         out.put(ESC);

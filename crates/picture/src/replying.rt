@@ -23,8 +23,6 @@ pub struct Response {
 impl Written for Response {
     ghost bytes = { λ r. report_bytes r.report r.at.line r.at.column };
 
-    ghost can = { λ r. Unit {0} };
-
     fn put(&self, out: &mut Out) {
         match self.report {
             Report::Status => out.put_sequence(&[Some(0)], false, b'n'),
