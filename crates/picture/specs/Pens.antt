@@ -31,7 +31,3 @@ pen_after p x = cond (is_erased x) (record { gap = true; rendition = p.rendition
 abbrev pub stop_at : Along → ℕ → List Function
 stop_at Columns k = column_stop k
 stop_at Lines k = line_stop k
-
-abbrev pub stop_if : Along → ℕ → Bool → List Function
-stop_if a k true = stop_at a k
-stop_if a k false = []

@@ -1,5 +1,5 @@
 // Cells that are not erased, in reading order.
-ghost use Rattle.std.specs.Prelude.{◌≡◌, ◌<◌, true, [], ◌∷◌, None};
+ghost use Rattle.std.specs.Prelude.{◌≡◌, ◌<◌, ◌==◌, not, true, [], ◌∷◌, None};
 ghost use Rattle.control.specs.Renditions.{rendition_of};
 ghost use Rattle.picture.specs.Tape.{tape};
 ghost use Rattle.picture.specs.Draws.{Draws};
@@ -27,31 +27,15 @@ fn is_erased(cell: Cell) -> bool
     cell == ERASED
 }
 
-fn put_cup_if(out: &mut Out, wanted: bool, at: Position)
-    ensures { Draws (tape out.old) (when wanted (cup at.line at.column)) (tape out.new) }
-{
-    if wanted {
-        put_cup(out, at);
-    }
-}
-
-// SGR of the rendition of this number; a foreign number has none.
-fn put_rendition(out: &mut Out, number: u16)
+// SGR where the number is another than the one last written; a foreign number has no rendition.
+fn put_rendition(out: &mut Out, pen: Pen, number: u16)
     requires { number < 34992 }
-    ensures { Draws (tape out.old) (sgr (rendition_of number) ∷ []) (tape out.new) }
+    ensures { Draws (tape out.old) (when (not (number == pen.rendition)) (sgr (rendition_of number))) (tape out.new) }
 {
-    match Rendition::from_number(number) {
-        Some(rendition) => put_sgr(out, rendition),
-        None => {}
-    }
-}
-
-fn put_rendition_if(out: &mut Out, wanted: bool, number: u16)
-    requires { number < 34992 }
-    ensures { Draws (tape out.old) (when wanted (sgr (rendition_of number))) (tape out.new) }
-{
-    if wanted {
-        put_rendition(out, number);
+    if number != pen.rendition
+        && let Some(rendition) = Rendition::from_number(number)
+    {
+        put_sgr(out, rendition);
     }
 }
 
@@ -62,15 +46,6 @@ fn is_start(pen: Pen, column: u16) -> bool
     pen.gap || column == 1
 }
 
-fn put_shown(out: &mut Out, pen: Pen, cell: Cell, at: Position)
-    requires { cell.rendition < 34992 }
-    ensures { Draws (tape out.old) (shown_functions pen cell at.line at.column) (tape out.new) }
-{
-    put_cup_if(out, is_start(pen, at.column), at);
-    put_rendition_if(out, cell.rendition != pen.rendition, cell.rendition);
-    out.put(cell.code);
-}
-
 // Puts a cell unless it is erased, and answers what the next depends on.
 fn put_cell(out: &mut Out, pen: Pen, cell: Cell, at: Position) -> Pen
     requires { cell.rendition < 34992 }
@@ -78,12 +53,13 @@ fn put_cell(out: &mut Out, pen: Pen, cell: Cell, at: Position) -> Pen
     ensures pen { result ≡ pen_after pen cell }
 {
     if is_erased(cell) {
-        return Pen {
-            gap: true,
-            rendition: pen.rendition,
-        };
+        return Pen { gap: true, ..pen };
     }
-    put_shown(out, pen, cell, at);
+    if is_start(pen, at.column) {
+        put_cup(out, at);
+    }
+    put_rendition(out, pen, cell.rendition);
+    out.put(cell.code);
     Pen {
         gap: false,
         rendition: cell.rendition,

@@ -13,7 +13,7 @@ use control::rendition::{Blink, Colour, Intensity, Rendition, Underline};
 fn flag_needs(flag: bool, n: u16) -> Option<u16>
     ensures { option_to_list result ≡ sets n flag }
 {
-    if flag { Some(n) } else { None }
+    flag.then_some(n)
 }
 
 fn intensity_needs(intensity: Intensity) -> Option<u16>
@@ -77,12 +77,9 @@ fn colour_needs(colour: Colour, from: u16) -> Option<u16>
 fn put_need(out: &mut Out, need: Option<u16>)
     ensures { Adds (tape out.old) (option_to_list need) (tape out.new) }
 {
-    match need {
-        Some(n) => {
-            out.put(b';');
-            out.put_number(n);
-        }
-        None => {}
+    if let Some(n) = need {
+        out.put(b';');
+        out.put_number(n);
     }
 }
 
