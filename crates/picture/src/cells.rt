@@ -15,7 +15,7 @@ use control::rendition::Rendition;
 use panel::{Cell, ERASED, Panel, Position};
 
 // What the next cell depends on: whether the one before it is erased, and the rendition last written.
-#[derive(Clone, Copy)]
+#[derive(Clone, Copy, Debug)]
 pub struct Pen {
     pub gap: bool,
     pub rendition: u16,

@@ -19,13 +19,11 @@ fn draw<P: Panel>(view: &View, panel: &P, buffer: &mut [u8]) -> Result<usize, Re
     requires { is_of_size view.now (P.Panel.shows panel.now).grid ≡ true }
     ensures { Does (draws (length buffer.old) (seen view.now (P.Panel.shows panel.now).grid)) result (seen view.now (P.Panel.shows panel.now).grid) buffer.old buffer.new }
 {
-    match find_foreign(panel) {
-        Some(k) => {
-            let Position { line, column } = position_at(panel, k);
-            Err(Refusal::ForeignCell { line, column })
-        }
-        None => write_front(&Drawing { view, panel }, buffer),
+    if let Some(k) = find_foreign(panel) {
+        let Position { line, column } = position_at(panel, k);
+        return Err(Refusal::ForeignCell { line, column });
     }
+    write_front(&Drawing { view, panel }, buffer)
 }
 
 fn show<P: Panel>(view: &View, panel: &P, buffer: &mut [u8]) -> Result<usize, Refusal>
@@ -47,8 +45,6 @@ fn show<P: Panel>(view: &View, panel: &P, buffer: &mut [u8]) -> Result<usize, Re
 pub fn picture<P: Panel>(page: &Page, panel: &P, buffer: &mut [u8]) -> Result<usize, Refusal>
     ensures { Does (pictures (length buffer.old) (plain page.now (P.Panel.shows panel.now).grid)) result (plain page.now (P.Panel.shows panel.now).grid) buffer.old buffer.new }
 {
-    let Some(view) = page.view() else {
-        return Err(Refusal::OtherPanel);
-    };
+    let view = page.view().ok_or(Refusal::OtherPanel)?;
     show(&view, panel, buffer)
 }

@@ -7,7 +7,7 @@ ghost use Rattle.picture.specs.Writes.{string_bytes};
 use crate::front::Written;
 use crate::out::{ESC, Out};
 
-#[derive(Clone, Copy)]
+#[derive(Clone, Copy, Debug)]
 pub struct Text<'a> {
     pub bytes: &'a [u8],
 }
@@ -20,7 +20,7 @@ impl Written for Text<'_> {
     }
 }
 
-#[derive(Clone, Copy)]
+#[derive(Clone, Copy, Debug)]
 pub struct Control {
     pub byte: u8,
 }
@@ -38,7 +38,7 @@ impl Written for Control {
     }
 }
 
-#[derive(Clone, Copy)]
+#[derive(Clone, Copy, Debug)]
 pub struct Sequence<'a> {
     pub parameters: &'a [Option<u16>],
     pub space: bool,
@@ -54,7 +54,7 @@ impl Written for Sequence<'_> {
 }
 
 // A string by its opener's 8-bit code.
-#[derive(Clone, Copy)]
+#[derive(Clone, Copy, Debug)]
 pub struct CommandString<'a> {
     pub opener: u8,
     pub body: &'a [u8],

@@ -29,10 +29,7 @@ fn cell_on<P: Panel>(panel: &P, at: Position) -> Cell
     requires { on (P.Panel.shows panel.now).grid at.line at.column ≡ true }
     ensures { result ≡ cell_at (P.Panel.shows panel.now).grid at.line at.column }
 {
-    match panel.cell(at.line, at.column) {
-        Ok(cell) => cell,
-        Err(_) => ERASED,
-    }
+    panel.cell(at.line, at.column).unwrap_or(ERASED)
 }
 
 pub(crate) fn cell_of<P: Panel>(panel: &P, k: usize) -> Cell

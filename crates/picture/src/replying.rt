@@ -38,33 +38,20 @@ impl Written for Response {
 fn write_reply(view: &View, buffer: &mut [u8]) -> Result<usize, Refusal>
     ensures { Replies (state_seen view.now) result buffer.old buffer.new }
 {
-    match view.owed {
-        Some(report) => write_front(
-            &Response {
-                report,
-                at: Position {
-                    line: view.position.line,
-                    column: view.position.column,
-                },
-            },
-            buffer,
-        ),
-        None => Err(Refusal::NothingOwed),
-    }
+    let report = view.owed.ok_or(Refusal::NothingOwed)?;
+    let at = Position {
+        line: view.position.line,
+        column: view.position.column,
+    };
+    write_front(&Response { report, at }, buffer)
 }
 
 // Writes the reply that is owed, whatever panel the page is on; then nothing is owed.
 pub fn reply(page: &mut Page, buffer: &mut [u8]) -> Result<usize, Refusal>
     ensures { (g : Grid) → Does (replies (length buffer.old) (plain page.old g)) result (plain page.new g) buffer.old buffer.new }
 {
-    let Some(view) = page.view() else {
-        return Err(Refusal::OtherPanel);
-    };
-    match write_reply(&view, buffer) {
-        Ok(length) => {
-            page.settle();
-            Ok(length)
-        }
-        Err(e) => Err(e),
-    }
+    let view = page.view().ok_or(Refusal::OtherPanel)?;
+    let length = write_reply(&view, buffer)?;
+    page.settle();
+    Ok(length)
 }

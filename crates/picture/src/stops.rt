@@ -8,7 +8,7 @@ ghost use Rattle.picture.specs.Pens.{stop_at};
 use crate::out::{ESC, Out};
 use panel::Position;
 
-#[derive(Clone, Copy)]
+#[derive(Clone, Copy, Debug)]
 pub enum Along {
     Columns,
     Lines,
