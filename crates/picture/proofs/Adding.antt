@@ -1,11 +1,14 @@
 -- Parameters laid one after the other, and the renditions of numbers.
-use Rattle.std.proofs.Common.{◌≡◌, ℕ, ◌<◌, cond, ltb, List, [], ◌∷◌, ◌++◌, map, is_some, Some, None, Option, sym, refl, ap, ◌∙◌}
+use Rattle.std.proofs.Common.{◌≡◌, ℕ, ◌<◌, Bool, true, false, cond, ltb, List, [], ◌∷◌, ◌++◌, map, is_some, Some, None, Option, sym, refl, ap, ◌∙◌}
 use Rattle.std.proofs.lemmas.List.{append_assoc, map-append}
 use Rattle.std.proofs.lemmas.Bool.{cond-true, lt-ltb, true≢false}
+use Rattle.std.specs.Bool.{then_some}
+use Rattle.std.specs.Option.{option_to_list}
 use Rattle.control.specs.declared.rendition.Rendition.{Rendition}
 use Rattle.control.specs.Renditions.{rendition_of}
 use Rattle.reader.specs.Functions.{Parameter}
 use Rattle.picture.specs.Writing.{parameter_bytes, more_bytes}
+use Rattle.picture.specs.Renditions.{sets}
 use Rattle.picture.specs.Tape.{Tape}
 use Rattle.picture.specs.Draws.{Adds}
 use Rattle.picture.proofs.Tapes.{then, being}
@@ -33,3 +36,11 @@ has_rendition n r h e = ap (told r) (e ∙ numbered n h)
 
 pub lacks_rendition : (n : ℕ) → n < 34992 → None ≡ cond (ltb n 34992) (Some (rendition_of n)) None → ⊥
 lacks_rendition n h e = true≢false (sym (ap is_some (e ∙ numbered n h)))
+
+-- a parameter that a flag asks for
+sets_if : (b : Bool) (n : ℕ) → option_to_list (then_some b n) ≡ sets n b
+sets_if true n = refl
+sets_if false n = refl
+
+pub flag_sets : (b : Bool) (n : ℕ) {o : Option ℕ} → o ≡ then_some b n → option_to_list o ≡ sets n b
+flag_sets b n e = ap option_to_list e ∙ sets_if b n

@@ -1,9 +1,8 @@
--- Parameters as a slice pattern parts them, and the space before a final byte.
-use Rattle.std.proofs.Common.{◌≡◌, ◌-◌, ◌<◌, ◌≤◌, Bool, true, false, List, [], ◌∷◌, ◌++◌, length, get_or, take, drop, None, refl, ap, arith}
+-- Parameters as a slice pattern parts them.
+use Rattle.std.proofs.Common.{◌≡◌, ◌-◌, ◌<◌, ◌≤◌, List, [], ◌∷◌, ◌++◌, length, get_or, take, drop, None, refl, ap, arith}
 use Rattle.std.proofs.lemmas.List.{take_rest}
 use Rattle.reader.specs.Functions.{Parameter}
-use Rattle.picture.specs.Writing.{parameter_bytes, more_bytes, parameters_bytes, space_bytes}
-use Rattle.picture.specs.Tape.{only_if}
+use Rattle.picture.specs.Writing.{parameter_bytes, more_bytes, parameters_bytes}
 
 -- the parameters behind the first
 abbrev pub behind : List Parameter → List Parameter
@@ -16,7 +15,3 @@ listed_first (p ∷ ps) l = ap (λ qs. parameter_bytes p ++ more_bytes qs) (take
 pub listed_none : (ps : List Parameter) → length ps < 1 → [] ≡ parameters_bytes ps
 listed_none [] l = refl
 listed_none (p ∷ ps) l = absurd (omega arith)
-
-pub space_if : (b : Bool) → only_if b 0x20 ≡ space_bytes b
-space_if true = refl
-space_if false = refl

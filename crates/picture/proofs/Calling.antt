@@ -1,5 +1,5 @@
 -- A reply that is sent, or refused.
-use Rattle.std.proofs.Common.{◌≡◌, ℕ, Bool, true, false, cond, leb, List, [], length, is_some, Some, None, Option, Result, sym, refl, ap, subst}
+use Rattle.std.proofs.Common.{◌≡◌, ℕ, Bool, true, false, cond, leb, List, [], length, is_some, Some, None, Option, IsErrAnd, Ok, Err, Result, sym, refl, ap, subst}
 use Rattle.std.specs.Option.{option_map}
 use Rattle.std.proofs.lemmas.Bool.{true≢false}
 use Rattle.refusal.specs.declared.Refusal.{Refusal}
@@ -53,3 +53,9 @@ module _ (p : Page) (v : View) (g : Grid) (e : Some v ≡ view_of p) (b b' : Lis
       let w = reply_bytes (state_seen v) in
       let o = replied_if (seen v g) w b b' r (is_some v.owed) (leb (length w) (length b)) d.says d.wrote in
       subst (λ y. Does (replies (length b) (plain p g)) r y b b') (sym eq) (subst (λ y. Does (replies (length b) y) r (after_reply (answer r) y) b b') (sym is) o)
+
+-- a reply that was not written leaves the page
+pub not_replied : (p : Page) (v : View) (g : Grid) (e : Some v ≡ view_of p) (b b' : List ℕ) (r : Result ℕ Refusal) (f : Refusal)
+    → IsErrAnd r (λ x. x ≡ f) → Replies (state_seen v) (Err f) b b' → Does (replies (length b) (plain p g)) r (plain p g) b b'
+not_replied p v g e b b' (Ok n) f h d = absurd h
+not_replied p v g e b b' (Err x) f h d = replied p v g e b b' (Err x) (plain p g) refl (subst (λ y. Replies (state_seen v) (Err y) b b') (sym h) d)

@@ -1,8 +1,11 @@
 -- A number by its digits, the leading zeros left out.
-use Rattle.std.proofs.Common.{◌≡◌, ℕ, ◌+◌, ◌/◌, ◌%◌, true, false, ltb, leb, [], ◌∷◌, ◌++◌, ⊎_elim, arith}
+use Rattle.std.proofs.Common.{◌≡◌, ℕ, ◌+◌, ◌/◌, ◌%◌, Bool, true, false, cond, List, ltb, leb, [], ◌∷◌, ◌++◌, ⊎_elim, arith}
 use Rattle.std.proofs.lemmas.Bool.{cases_lt, lt-leb, le-leb, lt-ltb, le-ltb}
 use Rattle.picture.specs.Writing.{digits}
-use Rattle.picture.specs.Tape.{only_if}
+
+-- a digit that is written only where the number is so high
+abbrev pub only_if : Bool → ℕ → List ℕ
+only_if high d = cond high (d ∷ []) []
 
 pub digits_laid : (n : ℕ) → only_if (leb 1000 n) (48 + n / 1000) ++ (only_if (leb 100 n) (48 + n / 100 % 10) ++ (only_if (leb 10 n) (48 + n / 10 % 10) ++ ((48 + n % 10) ∷ []))) ≡ digits n
 unfolding digits

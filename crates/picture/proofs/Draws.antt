@@ -1,5 +1,5 @@
 -- Functions drawn one after the other.
-use Rattle.std.proofs.Common.{◌≡◌, List, [], ◌∷◌, ◌++◌, sym, refl, ap, ◌∙◌}
+use Rattle.std.proofs.Common.{◌≡◌, Bool, List, [], ◌∷◌, ◌++◌, sym, refl, ap, ◌∙◌, subst₂}
 use Rattle.std.proofs.lemmas.List.{append_assoc, append-nil}
 use Rattle.reader.specs.Functions.{Function}
 use Rattle.picture.specs.Writing.{written, all_written}
@@ -35,3 +35,7 @@ leaves_on {t} {u} {v} {all} {left} {fs} {gs} l e d = record { leads = leads_on l
 pub leaves_end : {t u : Tape} {all left : List Function} → Leaves u left t all → left ≡ [] → Draws t all u
 unfolding all_written
 leaves_end l e = record { lays = leads_end l.leads (ap all_written e) }
+
+-- what is drawn where a test came out so, by the test
+pub draws_by : (fs : Bool → List Function) {a b : Bool} {t u v : Tape} → a ≡ b → v ≡ u → Draws t (fs b) u → Draws t (fs a) v
+draws_by fs {a} {b} {t} e s d = subst₂ (λ x w. Draws t (fs x) w) (sym e) (sym s) d

@@ -9,7 +9,6 @@ pub mod Tapes
 pub mod Digits
 pub mod Askings
 pub mod Fronts
-pub mod Everies
 pub mod Lengths
 pub mod Readings
 pub mod Rewritings

@@ -41,7 +41,7 @@ pub record Narrow (w k : ℕ) : Type 0 where
   pub line : k / w + 1 < 2 ^ 16
   pub column : k % w + 1 < 2 ^ 16
 
-pub spot_narrow : (g : Grid) (k w : ℕ) → Whole g → k < length g.cells → w ≡ g.columns → Narrow w k
-spot_narrow g k w o h e =
+pub position_narrow : (g : Grid) (k w : ℕ) → Whole g → k < length g.cells → w ≡ g.columns → Narrow w k
+position_narrow g k w o h e =
     let l = lies g k o h in
     subst (λ x. Narrow x k) (sym e) (record { some = l.some; line = omega (arith, l.line, o.tall); column = omega (arith, l.column, o.wide) })

@@ -1,5 +1,6 @@
 -- What the writer writes is one item, and performs what was asked for.
-use Rattle.std.proofs.Common.{◌≡◌, ℕ, ◌+◌, ◌-◌, ◌<◌, ◌≤◌, Bool, true, false, leb, List, [], ◌∷◌, ◌++◌, map, length, Some, None, sym, refl, ap, ◌∙◌, inl, inr, ⊎_elim, arith}
+use Rattle.std.proofs.Common.{◌≡◌, ℕ, ◌+◌, ◌-◌, ◌<◌, Bool, true, false, leb, List, [], ◌∷◌, ◌++◌, map, length, Some, None, sym, refl, ap, ◌∙◌, inl, inr, ⊎_elim, arith}
+use Rattle.std.specs.List.{list_all}
 use Rattle.std.proofs.lemmas.Bool.{true≢false, and_parts, leb-true, cond-true, cond-false, cases_Bool}
 use Rattle.std.proofs.lemmas.Bool.Decides.{nat_tests}
 use Rattle.reader.specs.declared.item.Kind.{Kind}
@@ -15,7 +16,7 @@ use Rattle.reader.proofs.Endings.{behind_item}
 use Rattle.reader.proofs.Grammar.{items_perform}
 use Rattle.picture.specs.Writing.{parameters_bytes, space_bytes, written}
 use Rattle.picture.specs.Writable.{Small, Told, Fits}
-use Rattle.picture.specs.Writes.{every, is_text, is_control, is_small, is_told, is_sequence, is_string, string_bytes}
+use Rattle.picture.specs.Writes.{is_text, is_control, is_small, is_told, is_sequence, is_string, string_bytes}
 use Rattle.picture.specs.Reads.{Performs, ReadsInARow, TextReads, ControlReads, SequenceReads, StringReads}
 use Rattle.picture.proofs.Back.{numbers_back}
 
@@ -29,9 +30,9 @@ reads_in_a_row xs ys fs gs p q = record {
 by_form : (k : Kind) (x : List ℕ) (f : Form k x []) (fs : List Function) → is_rest k ≡ false → item_performs k x [] f ≡ fs → Performs x fs
 by_form k x f fs whole e = record { functions = items_perform k x [] f ∙ e; rests = (behind_item k x [] f whole).leads }
 
-all_of : (P : ℕ → Bool) (bs : List ℕ) → every P bs ≡ true → AllOf P bs
+all_of : (P : ℕ → Bool) (bs : List ℕ) → list_all P bs ≡ true → AllOf P bs
 all_of P [] h = tt
-all_of P (b ∷ bs) h = let p = and_parts (P b) (every P bs) h in (p.0, all_of P bs p.1)
+all_of P (b ∷ bs) h = let p = and_parts (P b) (list_all P bs) h in (p.0, all_of P bs p.1)
 
 text_form : (bs after : List ℕ) → is_text bs ≡ true → 0 < length bs → Stops is_graphic after → Form Text bs after
 text_form bs after h some stops = (some, all_of is_graphic bs h, stops)
@@ -94,10 +95,10 @@ pub control_reads : ControlReads
 control_reads b h = (control_performed b h, (λ after e. control_form b after h e), λ after e. escape_form b h e)
 
 -- sequences
-all_below : (ps : List Parameter) → every is_small ps ≡ true → Small ps
+all_below : (ps : List Parameter) → list_all is_small ps ≡ true → Small ps
 all_below [] h = tt
 all_below (None ∷ ps) h = all_below ps h
-all_below (Some n ∷ ps) h = let p = and_parts (leb n 9999) (every is_small ps) h in (leb-true n 9999 p.0, all_below ps p.1)
+all_below (Some n ∷ ps) h = let p = and_parts (leb n 9999) (list_all is_small ps) h in (leb-true n 9999 p.0, all_below ps p.1)
 
 lone_told : (ps : List Parameter) → is_told ps ≡ true → Told ps
 lone_told [] h = tt
@@ -108,7 +109,7 @@ lone_told (Some n ∷ ps) h = tt
 fits : (ps : List Parameter) (f : ℕ) → is_sequence ps f ≡ true → Fits ps × (ends_sequence f ≡ true)
 fits ps f h =
     let p = and_parts (leb (length ps) 16) _ h in
-    let q = and_parts (every is_small ps) _ p.1 in
+    let q = and_parts (list_all is_small ps) _ p.1 in
     let r = and_parts (is_told ps) (ends_sequence f) q.1 in
     (record { small = all_below ps q.0; told = lone_told ps r.0; few = leb-true _ _ p.0 }, r.1)
 
@@ -155,12 +156,9 @@ sequence_reads ps space f h =
     (by_form Sequence _ a.form _ refl e, λ after. (a.form, a.parameters, a.between, a.final))
 
 -- strings
-pub opener_high : (k : ℕ) (body : List ℕ) → is_string k body ≡ true → 64 ≤ k
-opener_high k body h = let p = (and_parts (is_opener k) (every is_body body) h).0 in grind (arith, nat_tests)
-
 string_form : (k : ℕ) (body : List ℕ) → is_string k body ≡ true → (i : Enclosed is_opener (AllOf is_body) (string_bytes k body)) × (i.by ≡ k) × (i.body ≡ body)
 string_form k body h =
-    let p = and_parts (is_opener k) (every is_body body) h in (
+    let p = and_parts (is_opener k) (list_all is_body body) h in (
       record {
         by = k;
         opener = 0x1B ∷ (k - 64) ∷ [];

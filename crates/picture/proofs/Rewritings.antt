@@ -1,15 +1,12 @@
 -- A sequence that was read within the bounds can be written.
-use Rattle.std.proofs.Common.{◌≡◌, ℕ, Bool, true, false, cond, ◌&&◌, eqb, leb, List, [], ◌∷◌, map, length, Some, None, Err, Result, sym, refl, ap, ◌∙◌, subst, ⊎_elim, arith}
+use Rattle.std.proofs.Common.{◌≡◌, ℕ, Bool, true, false, cond, ◌&&◌, eqb, leb, List, [], ◌∷◌, map, length, Some, None, sym, refl, ap, ◌∙◌, subst, ⊎_elim, arith}
+use Rattle.std.specs.List.{list_all}
 use Rattle.std.proofs.lemmas.List.{length-map}
 use Rattle.std.proofs.lemmas.Bool.{true≢false, and_parts, and_from, le-leb, cases_Bool, cond-true, cond-false}
 use Rattle.reader.specs.Bytes.{is_separator, ends_sequence}
 use Rattle.reader.specs.Functions.{Parameter, Parameters, Function, graphic, control, reset, sequence}
 use Rattle.reader.specs.Numbers.{onto, parts, value, plain, numbers, sequence_performs}
-use Rattle.refusal.specs.declared.Refusal.{Refusal}
-use Rattle.refusal.specs.declared.Refusal.TheVariants.{OutOfRange}
-use Rattle.picture.specs.Writing.{written}
-use Rattle.picture.specs.Writes.{Writes, every, is_small, is_told, is_sequence, is_rewritable, rewritten}
-use Rattle.picture.proofs.Fronts.{out_of_range}
+use Rattle.picture.specs.Writes.{is_small, is_told}
 use Rattle.picture.specs.Reads.{SequenceRewrites}
 
 -- the parts of a function, for those that are sequences
@@ -52,7 +49,7 @@ value_small : (p : List ℕ) → is_small (value p) ≡ true
 value_small [] = refl
 value_small (d ∷ ds) = le-leb _ 9999 (omega arith)
 
-all_small : (l : List (List ℕ)) → every is_small (map value l) ≡ true
+all_small : (l : List (List ℕ)) → list_all is_small (map value l) ≡ true
 all_small [] = refl
 all_small (p ∷ l) = and_from (is_small (value p)) _ (value_small p) (all_small l)
 
@@ -82,7 +79,7 @@ is_there (Some ps) = true
 
 -- what is left of the range beside the final byte
 abbrev Fine : List Parameter → Type 0
-Fine ps = (leb (length ps) 16 ≡ true) × ((every is_small ps ≡ true) × (is_told ps ≡ true))
+Fine ps = (leb (length ps) 16 ≡ true) × ((list_all is_small ps ≡ true) × (is_told ps ≡ true))
 
 fine_parts : (b : ℕ) (bs : List ℕ) (ps : List Parameter) (t : Bool) → (plain (b ∷ bs) && leb (length (parts (b ∷ bs))) 16) ≡ t → cond t (Some (map value (parts (b ∷ bs)))) None ≡ Some ps → Fine ps
 fine_parts b bs ps true h e =
@@ -100,12 +97,3 @@ sequence_rewrites x i ps space f e =
     let t = told ps space f (numbers i.parameters) i.between i.final e in
     let n = fine i.parameters ps t.0 in
     and_from _ _ n.0 (and_from _ _ n.1.0 (and_from _ _ n.1.1 (sym (ap ends_sequence t.1) ∙ i.ends)))
-
--- a sequence that an item tells, and an item that tells none
-pub told_again : (fs : List Function) (qs ps : List Parameter) (space : Bool) (f : ℕ) {r : Result ℕ Refusal} {b b' : List ℕ}
-    → qs ≡ ps → sequence ps space f ∷ [] ≡ fs → Writes (is_sequence qs f) (written (sequence qs space f)) r b b' → Writes (is_rewritable fs) (rewritten fs) r b b'
-told_again fs qs ps space f {r} {b} {b'} e g w =
-    subst (λ l. Writes (is_rewritable l) (rewritten l) r b b') g (subst (λ l. Writes (is_sequence l f) (written (sequence l space f)) r b b') e w)
-
-pub untold : (fs : List Function) (b : List ℕ) → [] ≡ fs → Writes (is_rewritable fs) (rewritten fs) (Err OutOfRange) b b
-untold fs b e = subst (λ l. Writes (is_rewritable l) (rewritten l) (Err OutOfRange) b b) e (out_of_range false [] b refl)

@@ -7,11 +7,11 @@ use Rattle.control.specs.Renditions.{rendition_of}
 use Rattle.panel.specs.declared.cell.Cell.{Cell}
 use Rattle.panel.specs.Grids.{Grid, erased}
 use Rattle.picture.specs.declared.cells.Pen.{Pen}
-use Rattle.picture.specs.declared.places.Spot.{Spot}
+use Rattle.panel.specs.declared.cell.Position.{Position}
 use Rattle.picture.specs.Tape.{Tape}
 use Rattle.picture.specs.Draws.{Draws, Leaves}
 use Rattle.picture.specs.Pictures.{when, cup, sgr, is_erased, cells_from}
-use Rattle.picture.specs.Pens.{spot_of, cell_functions, pen_after}
+use Rattle.picture.specs.Pens.{position_of, cell_functions, pen_after}
 use Rattle.picture.proofs.Draws.{draws_as, leaves_on}
 
 first_column : (m : ℕ) → eqb m 0 ≡ eqb (m + 1) 1
@@ -46,8 +46,8 @@ unfolding cells_from
 cells_all w k p xs h = ap (rest_of w k p) (drop_all k xs h)
 
 -- the turn of a loop at index k
-pub cells_turn : (g : Grid) (k : ℕ) (p q : Pen) (x : Cell) (o : Spot) {t u v : Tape} {all : List Function}
-    → k < length g.cells → x ≡ get_or g.cells k erased → o ≡ spot_of g k → q ≡ pen_after p x
+pub cells_turn : (g : Grid) (k : ℕ) (p q : Pen) (x : Cell) (o : Position) {t u v : Tape} {all : List Function}
+    → k < length g.cells → x ≡ get_or g.cells k erased → o ≡ position_of g k → q ≡ pen_after p x
     → Leaves u (rest_of g.columns k p (drop k g.cells)) t all → Draws u (cell_functions p x o.line o.column) v
     → Leaves v (rest_of g.columns (k + 1) q (drop (k + 1) g.cells)) t all
 cells_turn g k p q x o {t} {u} {v} {all} h ex eo eq l d =

@@ -1,5 +1,5 @@
 -- Laying bytes: one list after another, and what the buffer holds in the end.
-use Rattle.std.proofs.Common.{◌≡◌, ℕ, ◌+◌, ◌-◌, ◌^◌, ◌<◌, ◌≤◌, min, List, [], ◌∷◌, ◌++◌, length, drop, set, sym, refl, ap, ◌∙◌, arith}
+use Rattle.std.proofs.Common.{◌≡◌, ℕ, ◌+◌, ◌-◌, ◌^◌, ◌<◌, ◌≤◌, min, Bool, List, [], ◌∷◌, ◌++◌, length, drop, set, sym, refl, ap, ◌∙◌, subst₂, arith}
 use Rattle.std.proofs.lemmas.List.{append_assoc, length-append, set_at}
 use Rattle.picture.specs.Tape.{Tape, next, begun, laid, Lays, Leads, over, needed}
 
@@ -75,3 +75,7 @@ loan_kept {loan} {b} {w} {u} l = sym (ap (λ t. t.loan) l.is ∙ same_loan (begu
 
 pub bytes_at_front : {loan : ℕ} {b w : List ℕ} {u : Tape} → Lays (begun loan b) w u → length w < 2 ^ 64 → length w ≤ length b → u.bytes ≡ over w b
 bytes_at_front {loan} {b} {w} {u} l h k = ap (λ t. t.bytes) l.is ∙ laid_front loan b w h k
+
+-- what is laid where a test came out so, by the test
+pub lays_by : (w : Bool → List ℕ) {a b : Bool} {t u v : Tape} → a ≡ b → v ≡ u → Lays t (w b) u → Lays t (w a) v
+lays_by w {a} {b} {t} e s l = subst₂ (λ x y. Lays t (w x) y) (sym e) (sym s) l

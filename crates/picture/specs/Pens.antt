@@ -5,14 +5,14 @@ use Rattle.control.specs.Renditions.{rendition_of}
 use Rattle.panel.specs.declared.cell.Cell.{Cell}
 use Rattle.panel.specs.Grids.{Grid}
 use Rattle.picture.specs.declared.cells.Pen.{Pen}
-use Rattle.picture.specs.declared.places.Spot.{Spot}
+use Rattle.panel.specs.declared.cell.Position.{Position}
 use Rattle.picture.specs.declared.stops.Along.{Along}
 use Rattle.picture.specs.declared.stops.Along.TheVariants.{Columns, Lines}
 use Rattle.picture.specs.Pictures.{when, cup, sgr, is_erased, column_stop, line_stop}
 
 -- the line and column of an index in reading order
-abbrev pub spot_of : Grid → ℕ → Spot
-spot_of g k = record { line = k / g.columns + 1; column = k % g.columns + 1 }
+abbrev pub position_of : Grid → ℕ → Position
+position_of g k = record { line = k / g.columns + 1; column = k % g.columns + 1 }
 
 abbrev pub starts : Pen → ℕ → Bool
 starts p c = p.gap || c == 1
@@ -31,7 +31,3 @@ pen_after p x = cond (is_erased x) (record { gap = true; rendition = p.rendition
 abbrev pub stop_at : Along → ℕ → List Function
 stop_at Columns k = column_stop k
 stop_at Lines k = line_stop k
-
-abbrev pub stop_if : Along → ℕ → Bool → List Function
-stop_if a k true = stop_at a k
-stop_if a k false = []

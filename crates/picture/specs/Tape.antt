@@ -1,5 +1,5 @@
 -- Bytes laid one after the other into a buffer.
-use Rattle.std.specs.Prelude.{◌≡◌, ℕ, ◌+◌, ◌-◌, ◌^◌, min, Bool, cond, List, [], ◌∷◌, ◌++◌, length, drop, slice_set}
+use Rattle.std.specs.Prelude.{◌≡◌, ℕ, ◌+◌, ◌-◌, ◌^◌, min, List, [], ◌∷◌, ◌++◌, length, drop, slice_set}
 use Rattle.picture.specs.declared.out.Out.{Out}
 
 -- the loan (by its ghost name), what the buffer holds, and how many bytes have come
@@ -29,9 +29,6 @@ pub record Lays (t : Tape) (w : List ℕ) (u : Tape) : Type 0 where
 -- what is left to lay leads where all of it does
 pub record Leads (u : Tape) (left : List ℕ) (t : Tape) (w : List ℕ) : Type 0 where
   pub is : laid u left ≡ laid t w
-
-abbrev pub only_if : Bool → ℕ → List ℕ
-only_if wanted b = cond wanted (b ∷ []) []
 
 -- bytes at a buffer's front, and the rest as it was
 abbrev pub over : List ℕ → List ℕ → List ℕ

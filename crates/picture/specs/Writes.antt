@@ -1,5 +1,6 @@
 -- What the writer can be asked for, the bytes of it, and what a call answers and writes.
 use Rattle.std.specs.Prelude.{◌≡◌, ℕ, ◌-◌, Bool, true, false, cond, not, ◌&&◌, ◌||◌, List, [], ◌∷◌, ◌++◌, length, Some, None, Result, ◌==◌, nat_le, nat_lt}
+use Rattle.std.specs.List.{list_all}
 use Rattle.refusal.specs.Table.{Answer, refused, answer}
 use Rattle.refusal.specs.declared.Refusal.{Refusal}
 use Rattle.refusal.specs.declared.Layer.TheVariants as layer
@@ -11,13 +12,9 @@ use Rattle.picture.specs.Writing.{written}
 use Rattle.picture.specs.Calls.{front_answer, front_bytes}
 use Rattle.picture.specs.Tape.{over}
 
-abbrev pub every : {A : Type 0} → (A → Bool) → List A → Bool
-every p [] = true
-every p (x ∷ xs) = p x && every p xs
-
 -- graphic characters
 abbrev pub is_text : List ℕ → Bool
-is_text bs = every is_graphic bs
+is_text bs = list_all is_graphic bs
 
 -- a C0 control but ESC, or a C1 control but CSI, SOS and the openers
 abbrev pub is_control : ℕ → Bool
@@ -40,11 +37,11 @@ is_told (p ∷ q ∷ ps) = true
 
 -- at most sixteen parameters, and a final byte of a sequence
 abbrev pub is_sequence : List Parameter → ℕ → Bool
-is_sequence ps f = nat_le (length ps) 16 && (every is_small ps && (is_told ps && ends_sequence f))
+is_sequence ps f = nat_le (length ps) 16 && (list_all is_small ps && (is_told ps && ends_sequence f))
 
 -- an opener by its 8-bit code, and a body
 abbrev pub is_string : ℕ → List ℕ → Bool
-is_string k body = is_opener k && every is_body body
+is_string k body = is_opener k && list_all is_body body
 
 -- a string: its opener as ESC and the byte 64 lower, its body, and ST as ESC \
 abbrev pub string_bytes : ℕ → List ℕ → List ℕ

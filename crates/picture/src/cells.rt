@@ -1,20 +1,21 @@
 // Cells that are not erased, in reading order.
-ghost use Rattle.std.specs.Prelude.{◌≡◌, ◌<◌, true, [], ◌∷◌, None};
+ghost use Rattle.std.specs.Prelude.{◌≡◌, ◌<◌, ◌==◌, not, true, [], ◌∷◌, None};
 ghost use Rattle.control.specs.Renditions.{rendition_of};
 ghost use Rattle.picture.specs.Tape.{tape};
 ghost use Rattle.picture.specs.Draws.{Draws};
 ghost use Rattle.picture.specs.Pictures.{cells_from, when, cup, sgr, is_erased, first_foreign};
 ghost use Rattle.picture.specs.Pens.{starts, shown_functions, cell_functions, pen_after};
 
+use crate::draw::Drawing;
 use crate::out::Out;
-use crate::places::{cell_of, count_cells, spot_at};
+use crate::places::{cell_of, count_cells, position_at};
 use crate::renditions::put_sgr;
 use crate::stops::put_cup;
 use control::rendition::Rendition;
-use panel::{Cell, Panel};
+use panel::{Cell, ERASED, Panel, Position};
 
 // What the next cell depends on: whether the one before it is erased, and the rendition last written.
-#[derive(Clone, Copy)]
+#[derive(Clone, Copy, Debug)]
 pub struct Pen {
     pub gap: bool,
     pub rendition: u16,
@@ -23,34 +24,18 @@ pub struct Pen {
 fn is_erased(cell: Cell) -> bool
     ensures { result ≡ is_erased cell }
 {
-    cell.code == 0 && cell.rendition == 0
+    cell == ERASED
 }
 
-fn put_cup_if(out: &mut Out, wanted: bool, line: u16, column: u16)
-    ensures { Draws (tape out.old) (when wanted (cup line column)) (tape out.new) }
-{
-    if wanted {
-        put_cup(out, line, column);
-    }
-}
-
-// SGR of the rendition of this number; a foreign number has none.
-fn put_rendition(out: &mut Out, number: u16)
+// SGR where the number is another than the one last written; a foreign number has no rendition.
+fn put_rendition(out: &mut Out, pen: Pen, number: u16)
     requires { number < 34992 }
-    ensures { Draws (tape out.old) (sgr (rendition_of number) ∷ []) (tape out.new) }
+    ensures { Draws (tape out.old) (when (not (number == pen.rendition)) (sgr (rendition_of number))) (tape out.new) }
 {
-    match Rendition::from_number(number) {
-        Some(rendition) => put_sgr(out, rendition),
-        None => {}
-    }
-}
-
-fn put_rendition_if(out: &mut Out, wanted: bool, number: u16)
-    requires { number < 34992 }
-    ensures { Draws (tape out.old) (when wanted (sgr (rendition_of number))) (tape out.new) }
-{
-    if wanted {
-        put_rendition(out, number);
+    if number != pen.rendition
+        && let Some(rendition) = Rendition::from_number(number)
+    {
+        put_sgr(out, rendition);
     }
 }
 
@@ -61,46 +46,39 @@ fn is_start(pen: Pen, column: u16) -> bool
     pen.gap || column == 1
 }
 
-fn put_shown(out: &mut Out, pen: Pen, cell: Cell, line: u16, column: u16)
-    requires { cell.rendition < 34992 }
-    ensures { Draws (tape out.old) (shown_functions pen cell line column) (tape out.new) }
-{
-    put_cup_if(out, is_start(pen, column), line, column);
-    put_rendition_if(out, cell.rendition != pen.rendition, cell.rendition);
-    out.put(cell.code);
-}
-
 // Puts a cell unless it is erased, and answers what the next depends on.
-fn put_cell(out: &mut Out, pen: Pen, cell: Cell, line: u16, column: u16) -> Pen
+fn put_cell(out: &mut Out, pen: Pen, cell: Cell, at: Position) -> Pen
     requires { cell.rendition < 34992 }
-    ensures lays { Draws (tape out.old) (cell_functions pen cell line column) (tape out.new) }
+    ensures lays { Draws (tape out.old) (cell_functions pen cell at.line at.column) (tape out.new) }
     ensures pen { result ≡ pen_after pen cell }
 {
     if is_erased(cell) {
-        return Pen {
-            gap: true,
-            rendition: pen.rendition,
-        };
+        return Pen { gap: true, ..pen };
     }
-    put_shown(out, pen, cell, line, column);
+    if is_start(pen, at.column) {
+        put_cup(out, at);
+    }
+    put_rendition(out, pen, cell.rendition);
+    out.put(cell.code);
     Pen {
         gap: false,
         rendition: cell.rendition,
     }
 }
 
-// Each cell that is not erased, of a panel without a foreign one.
-pub(crate) fn put_cells<P: Panel>(out: &mut Out, panel: &P)
-    requires { first_foreign 0 (P.Panel.shows panel.now).grid.cells ≡ None }
-    ensures { Draws (tape out.old) (cells_from (P.Panel.shows panel.now).grid.columns 0 true 0 (P.Panel.shows panel.now).grid.cells) (tape out.new) }
-{
-    let mut pen = Pen {
-        gap: true,
-        rendition: 0,
-    };
-    for k in 0..count_cells(panel) {
-        let spot = spot_at(panel, k);
-        let cell = cell_of(panel, k);
-        pen = put_cell(out, pen, cell, spot.line, spot.column);
+impl<P: Panel> Drawing<'_, '_, P> {
+    // Each cell that is not erased.
+    pub(crate) fn put_cells(&self, out: &mut Out)
+        ensures { Draws (tape out.old) (cells_from self.now.view.now.size.columns 0 true 0 (P.Panel.shows self.now.panel.now).grid.cells) (tape out.new) }
+    {
+        let mut pen = Pen {
+            gap: true,
+            rendition: 0,
+        };
+        for k in 0..count_cells(self.panel) {
+            let at = position_at(self.panel, k);
+            let cell = cell_of(self.panel, k);
+            pen = put_cell(out, pen, cell, at);
+        }
     }
 }

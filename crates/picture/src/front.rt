@@ -6,20 +6,16 @@ ghost use Rattle.picture.specs.Writes.{Writes};
 use crate::out::Out;
 use refusal::Refusal;
 
-// What can be put as bytes, one after the other, where it can at all.
+// What can be put as bytes, one after the other.
 pub trait Written {
     ghost bytes: { Self → List ℕ };
 
-    ghost can: { Self → Type 0 };
-
     fn put(&self, out: &mut Out)
-        requires { can self.now }
         ensures { Lays (tape out.old) (bytes self.now) (tape out.new) };
 }
 
 // The length, by putting the bytes where there is no room for any.
 fn measure<W: Written>(what: &W) -> usize
-    requires { W.Written.can what.now }
     ensures { result ≡ needed (W.Written.bytes what.now) }
 {
     let mut none: [u8; 0] = [];
@@ -29,8 +25,7 @@ fn measure<W: Written>(what: &W) -> usize
 }
 
 fn lay<W: Written>(what: &W, buffer: &mut [u8])
-    requires can { W.Written.can what.now }
-    requires room { length (W.Written.bytes what.now) ≤ length buffer.old }
+    requires { length (W.Written.bytes what.now) ≤ length buffer.old }
     ensures { buffer.new ≡ over (W.Written.bytes what.now) buffer.old }
 {
     let mut out = Out::new(buffer);
@@ -39,8 +34,7 @@ fn lay<W: Written>(what: &W, buffer: &mut [u8])
 
 // The bytes at the buffer's front, if all of them fit. The length is known before the first is written.
 pub(crate) fn write_front<W: Written>(what: &W, buffer: &mut [u8]) -> Result<usize, Refusal>
-    requires can { W.Written.can what.now }
-    requires small { length (W.Written.bytes what.now) < 2 ^ 64 }
+    requires { length (W.Written.bytes what.now) < 2 ^ 64 }
     ensures { Writes true (W.Written.bytes what.now) result buffer.old buffer.new }
 {
     let needed = measure(what);

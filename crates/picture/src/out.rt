@@ -2,7 +2,7 @@
 ghost use Rattle.std.specs.Prelude.{◌≡◌, [], ◌∷◌};
 ghost use Rattle.reader.specs.Functions.{sequence};
 ghost use Rattle.picture.specs.Writing.{digits, parameter_bytes, more_bytes, parameters_bytes, written};
-ghost use Rattle.picture.specs.Tape.{tape, begun, Lays, only_if};
+ghost use Rattle.picture.specs.Tape.{tape, begun, Lays};
 
 pub const ESC: u8 = 0x1B;
 
@@ -37,21 +37,19 @@ impl<'a> Out<'a> {
         self.at = at.saturating_add(1);
     }
 
-    fn put_if(&mut self, wanted: bool, byte: u8)
-        ensures { Lays (tape self.old) (only_if wanted byte) (tape self.new) }
-    {
-        if wanted {
-            self.put(byte);
-        }
-    }
-
     // A number without leading zeros; four digits are enough for what is written.
     pub(crate) fn put_number(&mut self, n: u16)
         ensures { Lays (tape self.old) (digits n) (tape self.new) }
     {
-        self.put_if(n >= 1000, b'0' + (n / 1000) as u8);
-        self.put_if(n >= 100, b'0' + (n / 100 % 10) as u8);
-        self.put_if(n >= 10, b'0' + (n / 10 % 10) as u8);
+        if n >= 1000 {
+            self.put(b'0' + (n / 1000) as u8);
+        }
+        if n >= 100 {
+            self.put(b'0' + (n / 100 % 10) as u8);
+        }
+        if n >= 10 {
+            self.put(b'0' + (n / 10 % 10) as u8);
+        }
         self.put(b'0' + (n % 10) as u8);
     }
 
@@ -66,9 +64,8 @@ impl<'a> Out<'a> {
     fn put_parameter(&mut self, parameter: Option<u16>)
         ensures { Lays (tape self.old) (parameter_bytes parameter) (tape self.new) }
     {
-        match parameter {
-            Some(n) => self.put_number(n),
-            None => {}
+        if let Some(n) = parameter {
+            self.put_number(n);
         }
     }
 
@@ -100,7 +97,9 @@ impl<'a> Out<'a> {
         self.put(ESC);
         self.put(b'[');
         self.put_parameters(parameters);
-        self.put_if(space, b' ');
+        if space {
+            self.put(b' ');
+        }
         self.put(final_byte);
     }
 }

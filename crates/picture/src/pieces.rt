@@ -7,7 +7,7 @@ ghost use Rattle.picture.specs.Writes.{string_bytes};
 use crate::front::Written;
 use crate::out::{ESC, Out};
 
-#[derive(Clone, Copy)]
+#[derive(Clone, Copy, Debug)]
 pub struct Text<'a> {
     pub bytes: &'a [u8],
 }
@@ -15,22 +15,18 @@ pub struct Text<'a> {
 impl Written for Text<'_> {
     ghost bytes = { λ t. t.bytes.now };
 
-    ghost can = { λ t. Unit {0} };
-
     fn put(&self, out: &mut Out) {
         out.put_all(self.bytes);
     }
 }
 
-#[derive(Clone, Copy)]
+#[derive(Clone, Copy, Debug)]
 pub struct Control {
     pub byte: u8,
 }
 
 impl Written for Control {
     ghost bytes = { λ c. written (control c.byte) };
-
-    ghost can = { λ c. Unit {0} };
 
     fn put(&self, out: &mut Out) {
         if self.byte >= 0x80 {
@@ -42,7 +38,7 @@ impl Written for Control {
     }
 }
 
-#[derive(Clone, Copy)]
+#[derive(Clone, Copy, Debug)]
 pub struct Sequence<'a> {
     pub parameters: &'a [Option<u16>],
     pub space: bool,
@@ -52,24 +48,21 @@ pub struct Sequence<'a> {
 impl Written for Sequence<'_> {
     ghost bytes = { λ s. written (sequence s.parameters.now s.space s.final_byte) };
 
-    ghost can = { λ s. Unit {0} };
-
     fn put(&self, out: &mut Out) {
         out.put_sequence(self.parameters, self.space, self.final_byte);
     }
 }
 
 // A string by its opener's 8-bit code.
-#[derive(Clone, Copy)]
+#[derive(Clone, Copy, Debug)]
 pub struct CommandString<'a> {
     pub opener: u8,
     pub body: &'a [u8],
+    ghost high: { 64 ≤ opener },
 }
 
 impl Written for CommandString<'_> {
     ghost bytes = { λ s. string_bytes s.opener s.body.now };
-
-    ghost can = { λ s. 64 ≤ s.opener };
 
     fn put(&self, out: &mut Out) {
         out.put(ESC);

@@ -1,15 +1,9 @@
 // A panel's cells by their indices in reading order.
 ghost use Rattle.std.specs.Prelude.{◌≡◌, ◌<◌, true, length, slice_index_or};
 ghost use Rattle.panel.specs.Grids.{erased, on, cell_at};
-ghost use Rattle.picture.specs.Pens.{spot_of};
+ghost use Rattle.picture.specs.Pens.{position_of};
 
-use panel::{Cell, ERASED, Panel, Size};
-
-#[derive(Clone, Copy)]
-pub struct Spot {
-    pub line: u16,
-    pub column: u16,
-}
+use panel::{Cell, ERASED, Panel, Position, Size};
 
 pub(crate) fn count_cells<P: Panel>(panel: &P) -> usize
     ensures { result ≡ length (P.Panel.shows panel.now).grid.cells }
@@ -18,33 +12,30 @@ pub(crate) fn count_cells<P: Panel>(panel: &P) -> usize
     lines as usize * columns as usize
 }
 
-// The line and column of an index.
-pub(crate) fn spot_at<P: Panel>(panel: &P, k: usize) -> Spot
+// The position of an index.
+pub(crate) fn position_at<P: Panel>(panel: &P, k: usize) -> Position
     requires { k < length (P.Panel.shows panel.now).grid.cells }
-    ensures { result ≡ spot_of (P.Panel.shows panel.now).grid k }
+    ensures { result ≡ position_of (P.Panel.shows panel.now).grid k }
 {
     let size = panel.size();
     let width = size.columns as usize;
-    Spot {
+    Position {
         line: (k / width) as u16 + 1,
         column: (k % width) as u16 + 1,
     }
 }
 
-fn cell_on<P: Panel>(panel: &P, spot: Spot) -> Cell
-    requires { on (P.Panel.shows panel.now).grid spot.line spot.column ≡ true }
-    ensures { result ≡ cell_at (P.Panel.shows panel.now).grid spot.line spot.column }
+fn cell_on<P: Panel>(panel: &P, at: Position) -> Cell
+    requires { on (P.Panel.shows panel.now).grid at.line at.column ≡ true }
+    ensures { result ≡ cell_at (P.Panel.shows panel.now).grid at.line at.column }
 {
-    match panel.cell(spot.line, spot.column) {
-        Ok(cell) => cell,
-        Err(_) => ERASED,
-    }
+    panel.cell(at).unwrap_or(ERASED)
 }
 
 pub(crate) fn cell_of<P: Panel>(panel: &P, k: usize) -> Cell
     requires { k < length (P.Panel.shows panel.now).grid.cells }
     ensures { result ≡ slice_index_or (P.Panel.shows panel.now).grid.cells k erased }
 {
-    let spot = spot_at(panel, k);
-    cell_on(panel, spot)
+    let at = position_at(panel, k);
+    cell_on(panel, at)
 }

@@ -10,12 +10,6 @@ ghost use Rattle.picture.specs.Pictures.{sgr};
 use crate::out::{ESC, Out};
 use control::rendition::{Blink, Colour, Intensity, Rendition, Underline};
 
-fn flag_needs(flag: bool, n: u16) -> Option<u16>
-    ensures { option_to_list result ≡ sets n flag }
-{
-    if flag { Some(n) } else { None }
-}
-
 fn intensity_needs(intensity: Intensity) -> Option<u16>
     ensures { option_to_list result ≡ sets_intensity intensity }
 {
@@ -77,12 +71,9 @@ fn colour_needs(colour: Colour, from: u16) -> Option<u16>
 fn put_need(out: &mut Out, need: Option<u16>)
     ensures { Adds (tape out.old) (option_to_list need) (tape out.new) }
 {
-    match need {
-        Some(n) => {
-            out.put(b';');
-            out.put_number(n);
-        }
-        None => {}
+    if let Some(n) = need {
+        out.put(b';');
+        out.put_number(n);
     }
 }
 
@@ -90,12 +81,12 @@ fn put_needs(out: &mut Out, rendition: Rendition)
     ensures { Adds (tape out.old) (needs_of rendition) (tape out.new) }
 {
     put_need(out, intensity_needs(rendition.intensity));
-    put_need(out, flag_needs(rendition.italic, 3));
+    put_need(out, rendition.italic.then_some(3));
     put_need(out, single_needs(rendition.underline));
     put_need(out, blink_needs(rendition.blink));
-    put_need(out, flag_needs(rendition.negative, 7));
-    put_need(out, flag_needs(rendition.concealed, 8));
-    put_need(out, flag_needs(rendition.crossed_out, 9));
+    put_need(out, rendition.negative.then_some(7));
+    put_need(out, rendition.concealed.then_some(8));
+    put_need(out, rendition.crossed_out.then_some(9));
     put_need(out, double_needs(rendition.underline));
     put_need(out, colour_needs(rendition.foreground, 30));
     put_need(out, colour_needs(rendition.background, 40));

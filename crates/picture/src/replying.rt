@@ -10,26 +10,24 @@ use crate::out::Out;
 use control::function::Report;
 use page::page::Page;
 use page::view::View;
+use panel::Position;
 use refusal::Refusal;
 
 // A reply by its report, and the position that one of them tells.
 #[derive(Clone, Copy)]
 pub struct Response {
     report: Report,
-    line: u16,
-    column: u16,
+    at: Position,
 }
 
 impl Written for Response {
-    ghost bytes = { λ r. report_bytes r.report r.line r.column };
-
-    ghost can = { λ r. Unit {0} };
+    ghost bytes = { λ r. report_bytes r.report r.at.line r.at.column };
 
     fn put(&self, out: &mut Out) {
         match self.report {
             Report::Status => out.put_sequence(&[Some(0)], false, b'n'),
             Report::Position => out.put_sequence(
-                &[Some(self.line), Some(self.column)],
+                &[Some(self.at.line), Some(self.at.column)],
                 false,
                 b'R',
             ),
@@ -40,31 +38,20 @@ impl Written for Response {
 fn write_reply(view: &View, buffer: &mut [u8]) -> Result<usize, Refusal>
     ensures { Replies (state_seen view.now) result buffer.old buffer.new }
 {
-    match view.owed {
-        Some(report) => write_front(
-            &Response {
-                report,
-                line: view.position.line,
-                column: view.position.column,
-            },
-            buffer,
-        ),
-        None => Err(Refusal::NothingOwed),
-    }
+    let report = view.owed.ok_or(Refusal::NothingOwed)?;
+    let at = Position {
+        line: view.position.line,
+        column: view.position.column,
+    };
+    write_front(&Response { report, at }, buffer)
 }
 
 // Writes the reply that is owed, whatever panel the page is on; then nothing is owed.
 pub fn reply(page: &mut Page, buffer: &mut [u8]) -> Result<usize, Refusal>
     ensures { (g : Grid) → Does (replies (length buffer.old) (plain page.old g)) result (plain page.new g) buffer.old buffer.new }
 {
-    let Some(view) = page.view() else {
-        return Err(Refusal::OtherPanel);
-    };
-    match write_reply(&view, buffer) {
-        Ok(length) => {
-            page.settle();
-            Ok(length)
-        }
-        Err(e) => Err(e),
-    }
+    let view = page.view().ok_or(Refusal::OtherPanel)?;
+    let length = write_reply(&view, buffer)?;
+    page.settle();
+    Ok(length)
 }

@@ -1,22 +1,23 @@
 // CUP, and stops set again.
-ghost use Rattle.std.specs.Prelude.{◌≡◌, false, [], ◌∷◌, take, slice_index_or};
+ghost use Rattle.std.specs.Prelude.{[], ◌∷◌, take};
 ghost use Rattle.picture.specs.Tape.{tape};
 ghost use Rattle.picture.specs.Draws.{Draws};
 ghost use Rattle.picture.specs.Pictures.{cup, stops_from};
-ghost use Rattle.picture.specs.Pens.{stop_at, stop_if};
+ghost use Rattle.picture.specs.Pens.{stop_at};
 
 use crate::out::{ESC, Out};
+use panel::Position;
 
-#[derive(Clone, Copy)]
+#[derive(Clone, Copy, Debug)]
 pub enum Along {
     Columns,
     Lines,
 }
 
-pub(crate) fn put_cup(out: &mut Out, line: u16, column: u16)
-    ensures { Draws (tape out.old) (cup line column ∷ []) (tape out.new) }
+pub(crate) fn put_cup(out: &mut Out, at: Position)
+    ensures { Draws (tape out.old) (cup at.line at.column ∷ []) (tape out.new) }
 {
-    out.put_sequence(&[Some(line), Some(column)], false, b'H');
+    out.put_sequence(&[Some(at.line), Some(at.column)], false, b'H');
 }
 
 // Goes there, and sets a stop.
@@ -25,38 +26,25 @@ fn put_stop(out: &mut Out, along: Along, k: u16)
 {
     match along {
         Along::Columns => {
-            put_cup(out, 1, k);
+            put_cup(out, Position { line: 1, column: k });
             out.put(ESC);
             out.put(b'H');
         }
         Along::Lines => {
-            put_cup(out, k, 1);
+            put_cup(out, Position { line: k, column: 1 });
             out.put(ESC);
             out.put(b'J');
         }
     }
 }
 
-fn put_stop_if(out: &mut Out, wanted: bool, along: Along, k: u16)
-    ensures { Draws (tape out.old) (stop_if along k wanted) (tape out.new) }
-{
-    if wanted {
-        put_stop(out, along, k);
-    }
-}
-
-// There is no stop past the last flag.
-fn is_set(flags: &[bool], i: usize) -> bool
-    ensures { result ≡ slice_index_or flags.now i false }
-{
-    if i < flags.len() { flags[i] } else { false }
-}
-
-// The first `count` flags as stops.
+// The first `count` flags as stops; there is none past the last flag.
 pub(crate) fn put_stops(out: &mut Out, along: Along, flags: &[bool], count: u16)
     ensures { Draws (tape out.old) (stops_from (stop_at along) 1 (take count flags.now)) (tape out.new) }
 {
-    for i in 0..count {
-        put_stop_if(out, is_set(flags, i as usize), along, i + 1);
+    for (i, flag) in (0..count).zip(flags) {
+        if *flag {
+            put_stop(out, along, i + 1);
+        }
     }
 }

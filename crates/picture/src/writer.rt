@@ -79,8 +79,6 @@ pub fn rewrite(item: &Item, buffer: &mut [u8]) -> Result<usize, Refusal>
     ensures tells { SequencesTell }
     ensures reads { SequenceReads }
 {
-    match item.sequence() {
-        Some(s) => write_sequence(s.parameters.listed(), s.space, s.final_byte, buffer),
-        None => Err(Refusal::OutOfRange),
-    }
+    let s = item.sequence().ok_or(Refusal::OutOfRange)?;
+    write_sequence(s.parameters.listed(), s.space, s.final_byte, buffer)
 }

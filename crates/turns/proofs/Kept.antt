@@ -1,5 +1,5 @@
 -- What a call wrote is the front of its buffer, as long as the answer counts.
-use Rattle.std.proofs.Common.{◌≡◌, ℕ, ◌+◌, ◌/◌, ◌%◌, ◌≤◌, Bool, true, false, cond, leb, List, [], length, take, drop, Some, None, Option, Result, sym, refl, ap, ◌∙◌, arith}
+use Rattle.std.proofs.Common.{◌≡◌, ℕ, ◌+◌, ◌/◌, ◌%◌, ◌≤◌, Bool, true, false, cond, leb, List, [], ◌++◌, length, take, drop, Some, None, Option, IsErrAnd, Ok, Err, Result, sym, refl, ap, ◌∙◌, arith}
 use Rattle.std.proofs.lemmas.List.{take_at}
 use Rattle.std.proofs.lemmas.Bool.{cond_both, leb-true}
 use Rattle.refusal.specs.Table.{accepted, refused, answer}
@@ -10,7 +10,8 @@ use Rattle.reader.specs.Steps.{is_at_rest}
 use Rattle.page.specs.Plain.{Plain, known, owes, settled}
 use Rattle.picture.specs.Pictures.{picture_bytes, reply_bytes, first_foreign}
 use Rattle.picture.specs.Calls.{Outcome, Does, refuses, fronts, replies, draws, pictures}
-use Rattle.turns.specs.Running.{count_of}
+use Rattle.panel.specs.Screens.{Beyond}
+use Rattle.turns.specs.Running.{count_of, Did}
 
 pub record Counted (room : ℕ) (o : Outcome) : Type 0 where
   pub counts : count_of o.says ≡ length o.writes
@@ -54,3 +55,22 @@ pub front_written : {o : Outcome} {r : Result ℕ Refusal} {y : Plain} {b b' : L
 front_written {o} {r} {y} {b} {b'} n d c e =
     let m : n ≡ length o.writes = e ∙ ap count_of d.says ∙ c.counts in
     record { fits = omega (arith, c.fits, m); front = ap (take n) d.wrote ∙ take_at o.writes (drop (length o.writes) b) n (sym m) }
+
+-- a call refused what another refused
+pub refused_as : (r : Result ℕ Refusal) (e : Refusal) → IsErrAnd r (λ f. f ≡ e) → answer r ≡ answer {A = ℕ} (Err e)
+refused_as (Ok n) e h = absurd h
+refused_as (Err f) e h = ap (λ (q : Refusal). answer {A = ℕ} (Err q)) h
+
+-- what a call wrote at the front of its buffer, added to what was written before
+module _ {o : Outcome} {r : Result ℕ Refusal} {y : Plain} {b b' : List ℕ} (d : Does o r y b b') (k : Counted (length b) o) (c : List ℕ) (same : c ≡ b') where
+  pub kept_fits : length b' ≡ length b → count_of (answer r) ≤ length c
+  kept_fits long = let f = front_written (count_of (answer r)) d k refl in omega (arith, f.fits, long, ap length same)
+
+  pub kept : (β : Beyond) {w w' : List ℕ} → w' ≡ w ++ take (count_of (answer r)) c → Did o r β (record { plain = y; beyond = β }) w w'
+  kept β {w} {w'} e =
+      let f = front_written (count_of (answer r)) d k refl in
+      record {
+        says = d.says;
+        leaves = ap (λ (p : Plain). record { plain = p; beyond = β }) d.leaves;
+        adds = e ∙ ap (λ (l : List ℕ). w ++ take (count_of (answer r)) l) same ∙ ap (λ (l : List ℕ). w ++ l) f.front;
+      }

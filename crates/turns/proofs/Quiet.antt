@@ -104,7 +104,7 @@ sent {was} {here} {bs} {rest_of} g front back after cut few e =
       beyond = ap (λ (o : OnPanel). o.beyond) e ∙ g.beyond;
     }
 
-pub sent_all : {was here : OnPanel} {bs rest_of : List ℕ} → Sending was here bs rest_of → (after : OnPanel) → length rest_of ≤ 4096 → after ≡ leaves (delivered rest_of) here → after ≡ leaves (λ x. after_bytes x bs) was
-sent_all {was} {here} {bs} {rest_of} g after few e =
-    let whole = delivered_quiet here.plain rest_of g.knows few g.free g.quiet ∙ g.left in
-    e ∙ (λ i. record { plain = whole i; beyond = g.beyond i })
+pub sent_none : {was here : OnPanel} {bs : List ℕ} (rest_of : List ℕ) → Sending was here bs rest_of → length rest_of ≡ 0 → here ≡ leaves (λ x. after_bytes x bs) was
+unfolding run
+sent_none [] g e = λ i. record { plain = g.left i; beyond = g.beyond i }
+sent_none (b ∷ rest_of) g e = absurd (omega (arith, e))

@@ -1,15 +1,12 @@
 -- Two pages: one made equal to another by its picture, and whether two are equal.
-use Rattle.std.specs.Prelude.{◌≡◌, ℕ, Bool, cond, ◌&&◌, List, [], ◌++◌, length, drop, IfOk, Decides, Result, MatchResult, ◌==◌}
+use Rattle.std.specs.Prelude.{◌≡◌, ℕ, Bool, cond, ◌&&◌, List, [], length, IfOk, Decides, Result, MatchResult, ◌==◌}
 use Rattle.refusal.specs.Table.{Answer, accepted, refused, answer}
 use Rattle.refusal.specs.declared.Refusal.{Refusal}
 use Rattle.panel.specs.Grids.{Grid}
 use Rattle.reader.specs.Laws.{is_in_sos}
 use Rattle.page.specs.Plain.{Plain, OnPanel, known, owes, page_refuses}
+use Rattle.picture.specs.Tape.{over}
 use Rattle.picture.specs.Calls.{pictures}
-
--- bytes over the front of others
-abbrev pub over : List ℕ → List ℕ → List ℕ
-over front bs = front ++ drop (length front) bs
 
 -- the first of two answers, unless it accepts
 abbrev pub unless_refused : {A : Type 0} → Answer (Unit {0}) → Answer A → Answer A

@@ -6,21 +6,13 @@ ghost use Rattle.turns.specs.Running.{count_of};
 use refusal::Refusal;
 use std::alloc::{AllocError, Global};
 
-pub(crate) fn count(r: Result<usize, Refusal>) -> usize
-    ensures { result ≡ count_of (answer r) }
+// Adds what a call wrote at the buffer's front: as many bytes as it answered.
+pub(crate) fn keep(said: Result<usize, Refusal>, buffer: &[u8], written: &mut Vec<u8>)
+    requires counts { count_of (answer said) ≤ length buffer.now }
+    requires room { vec_len written.old + length buffer.now ≤ vec_capacity written.old }
+    ensures { written.new.items ≡ written.old.items ++ take (count_of (answer said)) buffer.now }
 {
-    match r {
-        Ok(n) => n,
-        Err(_) => 0,
-    }
-}
-
-// Adds the front of a buffer to what was written before.
-pub(crate) fn keep(buffer: &[u8], n: usize, written: &mut Vec<u8>)
-    requires { (n ≤ length buffer.now) × (vec_len written.old + length buffer.now ≤ vec_capacity written.old) }
-    ensures { written.new.items ≡ written.old.items ++ take n buffer.now }
-{
-    let _ = written.extend_from_slice(&buffer[0..n]);
+    let _ = written.extend_from_slice(&buffer[..said.unwrap_or(0)]);
 }
 
 // A buffer of `room` bytes, with as much room in `written`.

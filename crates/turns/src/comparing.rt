@@ -10,13 +10,6 @@ use panel::Panel;
 use picture::picture;
 use refusal::Refusal;
 
-fn equal_fronts(one: &[u8], n: usize, other: &[u8], m: usize) -> bool
-    requires { (n ≤ length one.now) × (m ≤ length other.now) }
-    ensures { Decides result (take n one.now ≡ take m other.now) }
-{
-    &one[0..n] == &other[0..m]
-}
-
 // Compares two pages by their pictures, each of which its buffer holds afterwards.
 pub fn same_pages<P: Panel, Q: Panel>(
     one: &Page,
@@ -34,5 +27,5 @@ pub fn same_pages<P: Panel, Q: Panel>(
     of_one_size(shown, over)?;
     let n = picture(one, shown, first)?;
     let m = picture(other, over, second)?;
-    Ok(equal_fronts(first, n, second, m))
+    Ok(first[..n] == second[..m])
 }

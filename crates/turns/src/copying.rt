@@ -12,7 +12,7 @@ ghost use Rattle.turns.specs.Laws.{Admitted, PictureRestores};
 
 use page::page::Page;
 use page::view::View;
-use panel::{Panel, Size};
+use panel::Panel;
 use picture::picture;
 use reader::standing::Standing;
 use refusal::Refusal;
@@ -20,35 +20,23 @@ use refusal::Refusal;
 pub(crate) fn of_one_size<P: Panel, Q: Panel>(one: &P, other: &Q) -> Result<(), Refusal>
     ensures { answer result ≡ size_answer (P.Panel.shows one.now).grid (Q.Panel.shows other.now).grid }
 {
-    let Size { lines, columns } = one.size();
-    let size = other.size();
-    if lines == size.lines && columns == size.columns {
+    if one.size() == other.size() {
         Ok(())
     } else {
         Err(Refusal::OtherPanel)
     }
 }
 
-fn is_in_sos(standing: Standing) -> bool
-    ensures { result ≡ is_in_sos (standing_of standing) }
-{
-    match standing {
-        Standing::Sos { .. } => true,
-        _ => false,
-    }
-}
-
 fn view_takes_picture<P: Panel>(view: &View, panel: &P) -> Result<(), Refusal>
     ensures { answer result ≡ takes_picture (seen view.now (P.Panel.shows panel.now).grid) }
 {
-    let Size { lines, columns } = panel.size();
-    if !(view.size.lines == lines && view.size.columns == columns) {
+    if view.size != panel.size() {
         return Err(Refusal::OtherPanel);
     }
     if view.owed.is_some() {
         return Err(Refusal::ReplyOwed);
     }
-    if is_in_sos(view.standing) {
+    if matches!(view.standing, Standing::Sos { .. }) {
         return Err(Refusal::Unfinished);
     }
     Ok(())
@@ -78,23 +66,9 @@ fn deliver_all<P: Panel>(page: &mut Page, panel: &mut P, bytes: &[u8])
     requires quiet { any_requests (performed (plain page.old (P.Panel.shows panel.old).grid).sheet.state.standing bytes.now) ≡ false }
     ensures { on_panel page.new (P.Panel.shows panel.new) ≡ leaves (λ x. after_bytes x bytes.now) (on_panel page.old (P.Panel.shows panel.old)) }
 {
-    let mut rest = bytes;
-    while rest.len() > 4096 {
-        let (front, back) = rest.split_at(4096);
-        let _ = page.deliver(panel, front);
-        rest = back;
+    for piece in bytes.chunks(4096) {
+        let _ = page.deliver(panel, piece);
     }
-    let _ = page.deliver(panel, rest);
-}
-
-fn deliver_front<P: Panel>(page: &mut Page, panel: &mut P, buffer: &[u8], n: usize)
-    requires knows { known (plain page.old (P.Panel.shows panel.old).grid) ≡ true }
-    requires free { owes (plain page.old (P.Panel.shows panel.old).grid) ≡ false }
-    requires fits { n ≤ length buffer.now }
-    requires quiet { any_requests (performed (plain page.old (P.Panel.shows panel.old).grid).sheet.state.standing (take n buffer.now)) ≡ false }
-    ensures { on_panel page.new (P.Panel.shows panel.new) ≡ leaves (λ x. after_bytes x (take n buffer.now)) (on_panel page.old (P.Panel.shows panel.old)) }
-{
-    deliver_all(page, panel, &buffer[0..n]);
 }
 
 // Makes `to` equal to `from` by its picture, which the buffer holds afterwards.
@@ -113,6 +87,6 @@ pub fn copy_page<P: Panel, Q: Panel>(
     of_one_size(shown, onto)?;
     takes_picture(to, onto)?;
     let n = picture(from, shown, buffer)?;
-    deliver_front(to, onto, buffer, n);
+    deliver_all(to, onto, &buffer[..n]);
     Ok(n)
 }

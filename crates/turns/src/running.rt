@@ -7,7 +7,7 @@ ghost use Rattle.turns.specs.Running.{meant, Did, Ran, SomeRan};
 ghost use Rattle.turns.specs.Cases.{CasesHold};
 ghost use Rattle.turns.specs.Laws.{RunsShowItems, NeverForeign};
 
-use crate::buffers::{buffer_of, count, keep};
+use crate::buffers::{buffer_of, keep};
 use crate::turn::{Transcript, Turn};
 use page::page::Page;
 use panel::Panel;
@@ -15,43 +15,10 @@ use picture::{picture, reply};
 use refusal::Refusal;
 use std::alloc::{AllocError, Global};
 
-fn reply_kept<P: Panel>(
-    page: &mut Page,
-    panel: &P,
-    buffer: &mut [u8],
-    written: &mut Vec<u8>,
-) -> Result<usize, Refusal>
-    requires { vec_len written.old + length buffer.old ≤ vec_capacity written.old }
-    ensures { Did (replies (length buffer.old) (plain page.old (P.Panel.shows panel.now).grid)) result (P.Panel.shows panel.now).beyond (on_panel page.new (P.Panel.shows panel.now)) written.old.items written.new.items }
-{
-    let r = reply(page, buffer);
-    let n = count(r);
-    keep(buffer, n, written);
-    r
-}
-
-fn picture_kept<P: Panel>(
-    page: &Page,
-    panel: &P,
-    buffer: &mut [u8],
-    written: &mut Vec<u8>,
-) -> Result<usize, Refusal>
-    requires { vec_len written.old + length buffer.old ≤ vec_capacity written.old }
-    ensures { Did (pictures (length buffer.old) (plain page.now (P.Panel.shows panel.now).grid)) result (P.Panel.shows panel.now).beyond (on_panel page.now (P.Panel.shows panel.now)) written.old.items written.new.items }
-{
-    let r = picture(page, panel, buffer);
-    let n = count(r);
-    keep(buffer, n, written);
-    r
-}
-
 fn delivered<P: Panel>(page: &mut Page, panel: &mut P, bytes: &[u8]) -> Result<usize, Refusal>
     ensures { (w : List ℕ) → Did (turn (plain page.old (P.Panel.shows panel.old).grid) (deliver bytes.now)) result (P.Panel.shows panel.old).beyond (on_panel page.new (P.Panel.shows panel.new)) w w }
 {
-    match page.deliver(panel, bytes) {
-        Ok(done) => Ok(done.taken),
-        Err(e) => Err(e),
-    }
+    Ok(page.deliver(panel, bytes)?.taken)
 }
 
 // One turn; where memory fails, nothing is done.
@@ -68,11 +35,15 @@ fn take_turn<P: Panel>(
         Turn::Deliver(bytes) => Ok(delivered(page, panel, bytes)),
         Turn::Reply(room) => {
             let mut buffer = buffer_of(heap, *room, written)?;
-            Ok(reply_kept(page, panel, &mut buffer, written))
+            let answer = reply(page, &mut buffer);
+            keep(answer, &buffer, written);
+            Ok(answer)
         }
         Turn::Picture(room) => {
             let mut buffer = buffer_of(heap, *room, written)?;
-            Ok(picture_kept(page, panel, &mut buffer, written))
+            let answer = picture(page, panel, &mut buffer);
+            keep(answer, &buffer, written);
+            Ok(answer)
         }
     }
 }

@@ -7,5 +7,5 @@ pub returns : goal.returns
 returns g c =
     let l = subst (λ t. Lays t (g.W.Written.bytes c.args.what.now) (tape c.put.new.out)) c.new-out.ensures c.put.ensures in
     let kept = loan_kept l in
-    let front = bytes_at_front l (omega (arith, c.requires.room)) c.requires.room in
+    let front = bytes_at_front l (omega (arith, c.requires)) c.requires in
     search rules

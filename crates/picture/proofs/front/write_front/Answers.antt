@@ -3,10 +3,10 @@ use Rattle.picture.proofs.Fronts.{fits_all, too_short, laid_whole}
 use Rattle.picture.proofs.front.write_front.Goals as goal
 
 pub lay-requires : goal.lay-requires
-lay-requires g c = record { can = c.requires.can; room = fits_all _ _ _ c.measure-needed.ensures (omega arith) c.if-buffer-needed.false }
+lay-requires g c = fits_all _ _ _ c.measure-needed.ensures (omega arith) c.if-buffer-needed.false
 
 pub returns-then-buffer-needed : goal.returns-then-buffer-needed
-returns-then-buffer-needed g c = too_short _ _ _ c.requires.small c.measure-needed.ensures c.if-buffer-needed.true
+returns-then-buffer-needed g c = too_short _ _ _ c.requires c.measure-needed.ensures c.if-buffer-needed.true
 
 pub returns : goal.returns
 returns g c =

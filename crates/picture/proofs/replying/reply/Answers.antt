@@ -1,9 +1,14 @@
-use Rattle.std.proofs.Common.{Ok, Err, refl}
-use Rattle.picture.proofs.Calling.{replied}
+use Rattle.std.proofs.Common.{◌≡◌, Ok, Some, rules}
+use Rattle.page.specs.Plain.{view_of}
+use Rattle.picture.proofs.Calling.{replied, not_replied}
 use Rattle.picture.proofs.replying.reply.Goals as goal
 
-pub returns-in-Ok : goal.returns-in-Ok
-returns-in-Ok c = λ g. replied c.args.page.now _ g c.in-Some.ensures.answer _ _ (Ok c.in-Ok.length) _ (c.settle.ensures g) c.in-Ok.ensures
+pub returns-in_err-length : goal.returns-in_err-length
+returns-in_err-length c =
+    let e : Some c.in_ok-view.view ≡ view_of c.args.page.now = search rules in
+    λ g. not_replied c.args.page.now _ g e _ _ _ c.in_err-length.field-0.0 c.from_residual-in_err-length.ensures.1 c.in_err-length.ensures
 
-pub returns-in-Err : goal.returns-in-Err
-returns-in-Err c = λ g. replied c.args.page.now _ g c.in-Some.ensures.answer _ _ (Err c.in-Err.e) _ refl c.in-Err.ensures
+pub returns : goal.returns
+returns c =
+    let e : Some c.in_ok-view.view ≡ view_of c.args.page.now = search rules in
+    λ g. replied c.args.page.now _ g e _ _ (Ok c.in_ok-length.length) _ (c.settle.ensures g) c.in_ok-length.ensures

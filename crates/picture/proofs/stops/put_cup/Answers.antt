@@ -3,4 +3,4 @@ use Rattle.picture.proofs.Draws.{draws_one}
 use Rattle.picture.proofs.stops.put_cup.Goals as goal
 
 pub returns : goal.returns
-returns c = draws_one (cup c.args.line c.args.column) c.put_sequence.ensures
+returns c = draws_one (cup c.args.at.line c.args.at.column) c.put_sequence.ensures

@@ -8,7 +8,7 @@ pub returns-then-not-is_control : goal.returns-then-not-is_control
 returns-then-not-is_control c = record { writes = out_of_range _ _ _ (sym c.if-not-is_control.ensures); reads = control_reads; row = reads_in_a_row }
 
 pub write_front-requires : goal.write_front-requires
-write_front-requires c = record { can = tt; small = control_small c.args.byte }
+write_front-requires c = control_small c.args.byte
 
 pub returns : goal.returns
 returns c = record { writes = in_range _ _ (sym c.if-not-is_control.ensures) c.write_front.ensures; reads = control_reads; row = reads_in_a_row }

@@ -1,6 +1,4 @@
-use Rattle.std.proofs.Common.{length, refl, arith}
-use Rattle.page.specs.Plain.{plain}
-use Rattle.turns.proofs.Kept.{front_written, pictures_counted}
+use Rattle.std.proofs.Common.{rules}
 use Rattle.turns.proofs.Restoring.{pictures_tell_pages}
 use Rattle.turns.proofs.Compared.{other_size, first_refused, second_refused, compared}
 use Rattle.turns.proofs.comparing.same_pages.Goals as goal
@@ -26,17 +24,9 @@ returns-in_err-m g c =
       tell = pictures_tell_pages;
     }
 
-pub equal_fronts-requires : goal.equal_fronts-requires
-equal_fronts-requires g c =
-    let x = plain c.args.one.now (g.P.Panel.shows c.args.shown.now).grid in
-    let y = plain c.args.other.now (g.Q.Panel.shows c.args.over.now).grid in
-    let f = front_written c.in_ok-n.n c.in_ok-n.ensures (pictures_counted (length c.args.first.now) x) refl in
-    let h = front_written c.in_ok-m.m c.in_ok-m.ensures (pictures_counted (length c.args.second.now) y) refl in
-    (omega (arith, f.fits, c.picture.auto.buffer), omega (arith, h.fits, c.picture-2.auto.buffer))
-
 pub returns : goal.returns
 returns g c =
     record {
-      compares = compared _ _ c.args.first.now c.args.second.now c.in_ok-of_one_size.ensures c.in_ok-n.n _ c.in_ok-n.ensures c.equal_fronts.result c.in_ok-m.m _ c.is_admitted.ensures c.is_admitted-2.ensures c.in_ok-m.ensures c.equal_fronts.ensures;
+      compares = compared _ _ c.args.first.now c.args.second.now c.in_ok-of_one_size.ensures c.in_ok-n.n _ c.in_ok-n.ensures c.eq.result c.in_ok-m.m _ c.is_admitted.ensures c.is_admitted-2.ensures c.in_ok-m.ensures (search rules);
       tell = pictures_tell_pages;
     }

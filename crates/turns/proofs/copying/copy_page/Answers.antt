@@ -1,8 +1,6 @@
-use Rattle.std.proofs.Common.{length, refl, arith}
 use Rattle.page.specs.Plain.{plain, on_panel}
-use Rattle.turns.proofs.Kept.{front_written, pictures_counted}
 use Rattle.turns.proofs.Restoring.{picture_restores}
-use Rattle.turns.proofs.Copied.{takes, refused_size, refused_target, refused_picture, front_silent, copied}
+use Rattle.turns.proofs.Copied.{refused_size, refused_target, refused_picture, front_silent, copied}
 use Rattle.turns.proofs.copying.copy_page.Goals as goal
 
 pub returns-in_err-of_one_size : goal.returns-in_err-of_one_size
@@ -18,25 +16,17 @@ returns-in_err-n g c =
       restores = picture_restores;
     }
 
-pub deliver_front-requires : goal.deliver_front-requires
-deliver_front-requires g c =
+pub deliver_all-requires-clause-quiet : goal.deliver_all-requires-clause-quiet
+deliver_all-requires-clause-quiet g c =
     let x = plain c.args.from.now (g.P.Panel.shows c.args.shown.now).grid in
     let y = on_panel c.args.to.now (g.Q.Panel.shows c.args.onto.now) in
-    let k = takes y.plain c.in_ok-takes_picture.ensures in
-    let d = c.in_ok-n.ensures in
-    let f = front_written c.in_ok-n.n d (pictures_counted (length c.args.buffer.now) x) refl in
-    record {
-      knows = k.knows;
-      free = k.free;
-      fits = omega (arith, f.fits, c.picture.auto.buffer);
-      quiet = front_silent x y c.args.buffer.now c.in_ok-of_one_size.ensures c.in_ok-takes_picture.ensures c.in_ok-n.n _ c.is_admitted.ensures c.is_admitted-2.ensures d;
-    }
+    front_silent x y c.args.buffer.now c.in_ok-of_one_size.ensures c.in_ok-takes_picture.ensures c.in_ok-n.n _ c.is_admitted.ensures c.is_admitted-2.ensures c.in_ok-n.ensures
 
 pub returns : goal.returns
 returns g c =
     let x = plain c.args.from.now (g.P.Panel.shows c.args.shown.now).grid in
     let y = on_panel c.args.to.now (g.Q.Panel.shows c.args.onto.now) in
     record {
-      copies = copied x y c.args.buffer.now c.in_ok-of_one_size.ensures c.in_ok-takes_picture.ensures c.in_ok-n.n _ c.is_admitted.ensures c.is_admitted-2.ensures c.in_ok-n.ensures _ c.deliver_front.ensures;
+      copies = copied x y c.args.buffer.now c.in_ok-of_one_size.ensures c.in_ok-takes_picture.ensures c.in_ok-n.n _ c.is_admitted.ensures c.is_admitted-2.ensures c.in_ok-n.ensures _ c.deliver_all.ensures;
       restores = picture_restores;
     }

@@ -1,6 +1,0 @@
-use Rattle.std.proofs.Common.{false, sym}
-use Rattle.std.proofs.lemmas.List.{get_or_past}
-use Rattle.picture.proofs.stops.is_set.Goals as goal
-
-pub returns-else-i-flags : goal.returns-else-i-flags
-returns-else-i-flags c = sym (get_or_past c.args.flags.now c.args.i false c.if-i-flags.false)
