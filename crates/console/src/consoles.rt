@@ -5,22 +5,23 @@ use crate::frame::Look;
 use crate::recorded::PARTS;
 use crate::{frame, refused, transcripts};
 use page::page::Page;
-use panel::{ERASED, Lent, ListPanel, ModulePanel, Panel, Rectangle, Window};
+use panel::{ERASED, Lent, ListPanel, ModulePanel, Panel, Rectangle, Size, Window};
 use turns::comparing::same_pages;
 use turns::copying::copy_page;
 use turns::running::run_turns;
 use turns::running_two::run_two;
 
-const LINES: u16 = 6;
-
-const COLUMNS: u16 = 24;
+const SIZE: Size = Size {
+    lines: 6,
+    columns: 24,
+};
 
 // Where the practice console's page lies on the panel below.
 const FRAME: Rectangle = Rectangle {
     top: 2,
     left: 3,
-    lines: LINES,
-    columns: COLUMNS,
+    lines: SIZE.lines,
+    columns: SIZE.columns,
 };
 
 // How long the pieces are that the cable makes, before the picture and after it.
@@ -36,9 +37,15 @@ const ROOM: usize = 2048;
 pub(crate) fn run(rt: &HostRuntime) -> Result<(), Failure> {
     rt.println("\nTwo consoles")?;
     let mut bytes = [0; 432];
-    let mut tower = ModulePanel::new(&mut bytes, LINES, COLUMNS);
+    let mut tower = ModulePanel::new(&mut bytes, SIZE);
     let mut cells = [ERASED; 224];
-    let mut below = ListPanel::new(&mut cells, 8, 28);
+    let mut below = ListPanel::new(
+        &mut cells,
+        Size {
+            lines: 8,
+            columns: 28,
+        },
+    );
     over_window(rt, &mut tower, &mut below)
 }
 

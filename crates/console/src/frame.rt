@@ -4,7 +4,7 @@ use crate::call::Failure;
 use crate::sgr;
 use crate::shown::OwedShown;
 use page::page::Page;
-use panel::{ERASED, Panel};
+use panel::{ERASED, Panel, Position};
 use std::alloc::{AllocError, Global};
 
 #[derive(Clone, Copy, Debug, PartialEq, Eq)]
@@ -50,7 +50,7 @@ fn line_text<P: Panel>(
     let mut text = String::new(heap);
     let mut shown = ERASED.rendition;
     for column in 1..=panel.size().columns {
-        let cell = panel.cell(line, column).unwrap_or(ERASED);
+        let cell = panel.cell(Position { line, column }).unwrap_or(ERASED);
         if cell.rendition != shown {
             shown = cell.rendition;
             put_rendition(heap, &mut text, look, shown)?;

@@ -1,7 +1,7 @@
 // The command `items`: bytes as the reader reads them, piece by piece and item by item.
 use crate::call::Failure;
 use crate::line::Line;
-use crate::{pieces, shown};
+use crate::pieces;
 use reader::count_items;
 use reader::item::{Item, Items, Kind};
 use std::fs;
@@ -32,15 +32,11 @@ fn print_items(rt: &HostRuntime, bytes: &[u8]) -> Result<(), Failure> {
     rt.println("")?;
     rt.println("Items, and the bytes of those that are no text.")?;
     rt.println(" place  length  kind      performs                            bytes")?;
-    let count = count_items(bytes);
-    let mut items = Items::new(bytes);
-    for _ in 0..count {
-        let Some(item) = items.next() else {
-            break;
-        };
+    for item in Items::new(bytes) {
         print_item(rt, &item)?;
     }
     rt.println("")?;
+    let count = count_items(bytes);
     println!(rt; "Items: {count}")?;
     Ok(())
 }
@@ -48,7 +44,7 @@ fn print_items(rt: &HostRuntime, bytes: &[u8]) -> Result<(), Failure> {
 fn print_item(rt: &HostRuntime, item: &Item) -> Result<(), Failure> {
     let place = item.place;
     let length = item.bytes.len();
-    let kind = shown::kind_name(item.kind);
+    let kind = item.kind;
     let performs = Line::of_functions(rt.alloc(), item.bytes)?;
     print!(rt; "{place:>6}  {length:>6}  {kind:<8}  ")?;
     match item.kind {

@@ -70,7 +70,7 @@ pub(crate) fn on_list<T: OnPanel>(
     what: &T,
 ) -> Result<Vec<Cell>, Failure> {
     let mut memory = vec![in rt.alloc(); ERASED; cells(size)]?;
-    let mut panel = ListPanel::new(memory.as_mut_slice(), size.lines, size.columns);
+    let mut panel = ListPanel::new(memory.as_mut_slice(), size);
     what.run(rt, &mut panel)?;
     Ok(memory)
 }
@@ -82,7 +82,7 @@ pub(crate) fn on_module<T: OnPanel>(
     what: &T,
 ) -> Result<Vec<u8>, Failure> {
     let mut memory = vec![in rt.alloc(); 0; cells(size).saturating_mul(3)]?;
-    let mut panel = ModulePanel::new(memory.as_mut_slice(), size.lines, size.columns);
+    let mut panel = ModulePanel::new(memory.as_mut_slice(), size);
     what.run(rt, &mut panel)?;
     Ok(memory)
 }

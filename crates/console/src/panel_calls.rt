@@ -1,20 +1,18 @@
 // Calls on a panel, each printed with its answer.
 use crate::call::Failure;
 use crate::shown::DirectionShown;
-use panel::{Cell, Direction, Panel, Rectangle, Size, shift};
+use panel::{Cell, Direction, Panel, Position, Rectangle, Size, shift};
 use refusal::Refusal;
 use std::fmt;
 
 #[derive(Clone, Copy)]
 pub enum PanelCall {
     Set {
-        line: u16,
-        column: u16,
+        at: Position,
         cell: Cell,
     },
     Erase {
-        line: u16,
-        column: u16,
+        from: Position,
         count: usize,
     },
     Shift {
@@ -33,25 +31,33 @@ const STAR: Cell = Cell {
 // Of each call one that most sizes take, and then one that reaches past the end.
 fn calls_for(size: Size) -> [PanelCall; 6] {
     let Size { lines, columns } = size;
+    let last = Position {
+        line: lines,
+        column: columns,
+    };
+    let below = Position {
+        line: lines.saturating_add(1),
+        column: 1,
+    };
+    let edge = Position {
+        line: 1,
+        column: columns,
+    };
     [
         PanelCall::Set {
-            line: lines,
-            column: columns,
+            at: last,
             cell: STAR,
         },
         PanelCall::Set {
-            line: lines.saturating_add(1),
-            column: 1,
+            at: below,
             cell: STAR,
         },
         PanelCall::Erase {
-            line: 1,
-            column: columns,
+            from: edge,
             count: 2,
         },
         PanelCall::Erase {
-            line: lines,
-            column: columns,
+            from: last,
             count: 2,
         },
         PanelCall::Shift {
@@ -89,12 +95,8 @@ pub(crate) fn make_calls<P: Panel>(rt: &HostRuntime, panel: &mut P) -> Result<()
 
 fn make<P: Panel>(panel: &mut P, call: PanelCall) -> Result<(), Refusal> {
     match call {
-        PanelCall::Set { line, column, cell } => panel.set(line, column, cell),
-        PanelCall::Erase {
-            line,
-            column,
-            count,
-        } => panel.erase(line, column, count),
+        PanelCall::Set { at, cell } => panel.set(at, cell),
+        PanelCall::Erase { from, count } => panel.erase(from, count),
         PanelCall::Shift {
             rectangle,
             direction,
@@ -107,9 +109,9 @@ fn make<P: Panel>(panel: &mut P, call: PanelCall) -> Result<(), Refusal> {
 pub(crate) fn set_letters<P: Panel>(panel: &mut P) -> Result<(), Refusal> {
     let size = panel.size();
     let mut code = b'A';
-    for line in 0..size.lines {
-        for column in 0..size.columns {
-            panel.set(line + 1, column + 1, Cell { code, rendition: 0 })?;
+    for line in 1..=size.lines {
+        for column in 1..=size.columns {
+            panel.set(Position { line, column }, Cell { code, rendition: 0 })?;
             code = if code < b'Z' { code + 1 } else { b'A' };
         }
     }
@@ -119,19 +121,18 @@ pub(crate) fn set_letters<P: Panel>(panel: &mut P) -> Result<(), Refusal> {
 impl fmt::Display for PanelCall {
     fn fmt<W: fmt::Write>(&self, f: &mut fmt::Formatter<W>) -> fmt::Result {
         match *self {
-            PanelCall::Set { line, column, cell } => {
-                let code = cell.code;
-                let rendition = cell.rendition;
+            PanelCall::Set { at, cell } => {
+                let Position { line, column } = at;
+                let Cell { code, rendition } = cell;
                 write!(
                     f,
                     "Set {line},{column} to code {code:02X}, rendition {rendition}"
                 )
             }
-            PanelCall::Erase {
-                line,
-                column,
-                count,
-            } => write!(f, "Erase {count} cells from {line},{column} on"),
+            PanelCall::Erase { from, count } => {
+                let Position { line, column } = from;
+                write!(f, "Erase {count} cells from {line},{column} on")
+            }
             PanelCall::Shift {
                 rectangle,
                 direction,

@@ -1,8 +1,8 @@
 // A rendition as the terminal is told it.
-use control::rendition::{Blink, Colour, Intensity, Rendition, Underline};
+use control::rendition::{Ground, Rendition};
 use std::alloc::{AllocError, Global};
 
-// SGR: 0, and a value for each aspect that is not at its default.
+// SGR: 0, and a parameter for each aspect that is not at its default.
 pub(crate) fn put_rendition(
     heap: Global,
     text: &mut String,
@@ -10,8 +10,8 @@ pub(crate) fn put_rendition(
 ) -> Result<(), AllocError> {
     text.push_str("\x1b[0")?;
     if let Some(rendition) = Rendition::from_number(number) {
-        for value in values(rendition) {
-            if value > 0 {
+        for parameter in parameters(rendition) {
+            if let Some(value) = parameter {
                 text.push_str(format!(in heap; ";{value}")?.as_str())?;
             }
         }
@@ -19,61 +19,16 @@ pub(crate) fn put_rendition(
     text.push('m')
 }
 
-// The value of each aspect, 0 at its default.
-fn values(rendition: Rendition) -> [u8; 9] {
+fn parameters(rendition: Rendition) -> [Option<u16>; 9] {
     [
-        intensity(rendition.intensity),
-        flag(rendition.italic, 3),
-        underline(rendition.underline),
-        blink(rendition.blink),
-        flag(rendition.negative, 7),
-        flag(rendition.concealed, 8),
-        flag(rendition.crossed_out, 9),
-        colour(rendition.foreground, 30),
-        colour(rendition.background, 40),
+        rendition.intensity.parameter(),
+        rendition.italic.then_some(3),
+        rendition.underline.parameter(),
+        rendition.blink.parameter(),
+        rendition.negative.then_some(7),
+        rendition.concealed.then_some(8),
+        rendition.crossed_out.then_some(9),
+        rendition.foreground.parameter(Ground::Foreground),
+        rendition.background.parameter(Ground::Background),
     ]
-}
-
-fn flag(set: bool, value: u8) -> u8 {
-    if set { value } else { 0 }
-}
-
-fn intensity(intensity: Intensity) -> u8 {
-    match intensity {
-        Intensity::Normal => 0,
-        Intensity::Bold => 1,
-        Intensity::Faint => 2,
-    }
-}
-
-fn underline(underline: Underline) -> u8 {
-    match underline {
-        Underline::Plain => 0,
-        Underline::Single => 4,
-        Underline::Double => 21,
-    }
-}
-
-fn blink(blink: Blink) -> u8 {
-    match blink {
-        Blink::Steady => 0,
-        Blink::Slow => 5,
-        Blink::Rapid => 6,
-    }
-}
-
-// The value of a colour, with that of black given.
-fn colour(colour: Colour, black: u8) -> u8 {
-    let past_black = match colour {
-        Colour::Default => return 0,
-        Colour::Black => 0,
-        Colour::Red => 1,
-        Colour::Green => 2,
-        Colour::Yellow => 3,
-        Colour::Blue => 4,
-        Colour::Magenta => 5,
-        Colour::Cyan => 6,
-        Colour::White => 7,
-    };
-    black.saturating_add(past_black)
 }

@@ -1,10 +1,9 @@
-// How standings, kinds and functions are shown.
+// How standings, functions, replies and directions are shown.
 use crate::names;
 use crate::names::Name;
 use control::function::Report;
 use panel::Direction;
 use reader::function::{Function, Sequence};
-use reader::item::Kind;
 use reader::parameters::Parameters;
 use reader::standing::Standing;
 use std::fmt;
@@ -24,18 +23,6 @@ pub struct OwedShown(pub Option<Report>);
 
 #[derive(Clone, Copy)]
 pub struct DirectionShown(pub Direction);
-
-pub(crate) fn kind_name(kind: Kind) -> &'static str {
-    match kind {
-        Kind::Text => "text",
-        Kind::Control => "control",
-        Kind::Escape => "escape",
-        Kind::Sequence => "sequence",
-        Kind::String => "string",
-        Kind::Broken => "broken",
-        Kind::Rest => "rest",
-    }
-}
 
 impl fmt::Display for ParametersShown<'_> {
     fn fmt<W: fmt::Write>(&self, f: &mut fmt::Formatter<W>) -> fmt::Result {

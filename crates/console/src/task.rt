@@ -7,12 +7,13 @@ use crate::kinds::Kind;
 use crate::recorded::PARTS;
 use crate::{cable, consoles, frame, items, panel_shown};
 use page::page::Page;
-use panel::{ModulePanel, Panel, Size};
+use panel::{ModulePanel, Panel, Position, Size};
 use std::alloc::AllocError;
 
-const LINES: u16 = 6;
-
-const COLUMNS: u16 = 24;
+const SIZE: Size = Size {
+    lines: 6,
+    columns: 24,
+};
 
 // How many bytes come in one piece.
 const PIECE: usize = 5;
@@ -21,7 +22,7 @@ pub(crate) fn run(rt: &HostRuntime) -> Result<(), Failure> {
     let mut page = Page::new();
     refuse_sizes(rt, &mut page)?;
     let mut memory = [0; 432];
-    let mut panel = ModulePanel::new(&mut memory, LINES, COLUMNS);
+    let mut panel = ModulePanel::new(&mut memory, SIZE);
     show_parts(rt, &mut page, &mut panel)?;
     consoles::run(rt)?;
     read_parts(rt)?;
@@ -31,7 +32,13 @@ pub(crate) fn run(rt: &HostRuntime) -> Result<(), Failure> {
 // A start on more lines than a page has, which the memory would hold.
 fn refuse_sizes(rt: &HostRuntime, page: &mut Page) -> Result<(), Failure> {
     let mut memory = [0; 195];
-    let mut panel = ModulePanel::new(&mut memory, 65, 1);
+    let mut panel = ModulePanel::new(
+        &mut memory,
+        Size {
+            lines: 65,
+            columns: 1,
+        },
+    );
     print!(rt; "Start on a panel of 65 lines: ")?;
     match page.start(&mut panel) {
         Ok(()) => rt.println("accepted")?,
@@ -43,7 +50,8 @@ fn refuse_sizes(rt: &HostRuntime, page: &mut Page) -> Result<(), Failure> {
 fn show_parts<P: Panel>(rt: &HostRuntime, page: &mut Page, panel: &mut P) -> Result<(), Failure> {
     try_delivery(rt, page, panel, b"A")?;
     page.start(panel)?;
-    println!(rt; "Start on a panel of {LINES} lines and {COLUMNS} columns: accepted")?;
+    let Size { lines, columns } = SIZE;
+    println!(rt; "Start on a panel of {lines} lines and {columns} columns: accepted")?;
     let long = [b'A'; 4097];
     try_delivery(rt, page, panel, &long)?;
     for (name, bytes) in PARTS {
@@ -53,7 +61,7 @@ fn show_parts<P: Panel>(rt: &HostRuntime, page: &mut Page, panel: &mut P) -> Res
         }
     }
     print!(rt; "The cell at line 7, column 1: ")?;
-    match panel.cell(7, 1) {
+    match panel.cell(Position { line: 7, column: 1 }) {
         Ok(_) => rt.println("there")?,
         Err(refusal) => println!(rt; "refused {refusal}")?,
     }

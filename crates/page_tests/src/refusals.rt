@@ -14,12 +14,7 @@ const MARK: Cell = Cell {
 
 // Whether each cell is as it was before.
 fn is_marked(cells: &[Cell]) -> bool {
-    for cell in cells {
-        if cell.code != MARK.code || cell.rendition != MARK.rendition {
-            return false;
-        }
-    }
-    true
+    cells.iter().all(|cell| *cell == MARK)
 }
 
 fn deliver_text<P: Panel>(

@@ -5,7 +5,7 @@
 use control::function::Report;
 use page::page::Page;
 use page::view::View;
-use panel::{Cell, ERASED, Panel};
+use panel::{Cell, ERASED, Panel, Position};
 use reader::standing::Standing;
 use std::alloc::{AllocError, Global};
 
@@ -22,12 +22,12 @@ pub(crate) fn page_text<P: Panel>(
 pub(crate) fn cells_text<P: Panel>(heap: Global, panel: &P) -> Result<String, AllocError> {
     let mut text = String::new(heap);
     let size = panel.size();
-    for line in 0..size.lines {
-        if line > 0 {
+    for line in 1..=size.lines {
+        if line > 1 {
             text.push('|')?;
         }
-        for column in 0..size.columns {
-            if let Ok(cell) = panel.cell(line + 1, column + 1) {
+        for column in 1..=size.columns {
+            if let Ok(cell) = panel.cell(Position { line, column }) {
                 put_cell(heap, &mut text, cell)?;
             }
         }
@@ -36,7 +36,7 @@ pub(crate) fn cells_text<P: Panel>(heap: Global, panel: &P) -> Result<String, Al
 }
 
 fn put_cell(heap: Global, text: &mut String, cell: Cell) -> Result<(), AllocError> {
-    if cell.code == ERASED.code && cell.rendition == ERASED.rendition {
+    if cell == ERASED {
         return text.push('.');
     }
     text.push(char::from(cell.code))?;
@@ -89,9 +89,8 @@ fn put_words(text: &mut String, view: &View) -> Result<(), AllocError> {
     if view.modes.combination {
         text.push_str(" combination")?;
     }
-    match view.standing {
-        Standing::Rest => {}
-        _ => text.push_str(" midway")?,
+    if view.standing != Standing::Rest {
+        text.push_str(" midway")?;
     }
     match view.owed {
         Some(Report::Status) => text.push_str(" owes status"),
@@ -108,15 +107,11 @@ fn put_stops(
     count: u16,
     stops: &[bool],
 ) -> Result<(), AllocError> {
-    let mut first = true;
-    for (k, stop) in stops.iter().enumerate() {
-        if *stop && k < count as usize {
-            if first {
-                text.push_str(word)?;
-                first = false;
-            }
-            let place = k.saturating_add(1);
-            text.push_str(format!(in heap; " {place}")?.as_str())?;
+    let mut word = word;
+    for (place, stop) in (1..=count).zip(stops.iter()) {
+        if *stop {
+            text.push_str(format!(in heap; "{word} {place}")?.as_str())?;
+            word = "";
         }
     }
     Ok(())

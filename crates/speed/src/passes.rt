@@ -1,12 +1,19 @@
 // Passes over a file.
 use crate::words::{Call, Failure, Kind, Pass};
 use page::page::Page;
-use panel::{ERASED, Lent, ListPanel, ModulePanel, Panel, Rectangle, Window};
+use panel::{ERASED, Lent, ListPanel, ModulePanel, Panel, Position, Rectangle, Size, Window};
 use picture::picture;
 
-const LINES: u16 = 24;
+const SIZE: Size = Size {
+    lines: 24,
+    columns: 80,
+};
 
-const COLUMNS: u16 = 80;
+// The panel under a window.
+const BELOW: Size = Size {
+    lines: 26,
+    columns: 85,
+};
 
 // The most that a page takes at once.
 const DELIVERY: usize = 4096;
@@ -18,17 +25,17 @@ pub(crate) fn run(rt: &HostRuntime, call: &Call) -> Result<(), Failure> {
     match call.kind {
         Kind::List => {
             let mut cells = vec![in rt.alloc(); ERASED; 1920]?;
-            let mut panel = ListPanel::new(cells.as_mut_slice(), LINES, COLUMNS);
+            let mut panel = ListPanel::new(cells.as_mut_slice(), SIZE);
             on_panel(rt, &mut panel, call)
         }
         Kind::Module => {
             let mut bytes = vec![in rt.alloc(); 0; 5760]?;
-            let mut panel = ModulePanel::new(bytes.as_mut_slice(), LINES, COLUMNS);
+            let mut panel = ModulePanel::new(bytes.as_mut_slice(), SIZE);
             on_panel(rt, &mut panel, call)
         }
         Kind::Window => {
             let mut cells = vec![in rt.alloc(); ERASED; 2210]?;
-            let mut below = ListPanel::new(cells.as_mut_slice(), LINES + 2, COLUMNS + 5);
+            let mut below = ListPanel::new(cells.as_mut_slice(), BELOW);
             on_window(rt, &mut below, call)
         }
     }
@@ -38,8 +45,8 @@ fn on_window<P: Panel>(rt: &HostRuntime, below: &mut P, call: &Call) -> Result<(
     let frame = Rectangle {
         top: 2,
         left: 3,
-        lines: LINES,
-        columns: COLUMNS,
+        lines: SIZE.lines,
+        columns: SIZE.columns,
     };
     let mut panel = Window::new(Lent::new(below), frame);
     on_panel(rt, &mut panel, call)
@@ -77,13 +84,12 @@ fn deliver_all<P: Panel>(page: &mut Page, panel: &mut P, bytes: &[u8]) -> Result
 // The hash that the peers print: an erased cell counts as SPACE.
 fn hash_of<P: Panel>(panel: &P) -> u32 {
     let mut hash = 0u32;
-    for line in 0..LINES {
-        for column in 0..COLUMNS {
-            let code = match panel.cell(line + 1, column + 1) {
-                Ok(cell) => cell.code.max(32),
-                Err(_) => 0,
-            };
-            hash = hash.wrapping_mul(31).wrapping_add(code as u32);
+    for line in 1..=SIZE.lines {
+        for column in 1..=SIZE.columns {
+            let cell = panel.cell(Position { line, column }).unwrap_or(ERASED);
+            hash = hash
+                .wrapping_mul(31)
+                .wrapping_add(u32::from(cell.code.max(32)));
         }
     }
     hash

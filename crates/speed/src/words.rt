@@ -1,9 +1,10 @@
 // What the program is asked for.
 use refusal::Refusal;
 use std::alloc::AllocError;
+use std::str::FromStr;
 use std::{env, fmt, fs, io};
 
-#[derive(Clone, Copy)]
+#[derive(Clone, Copy, Debug, PartialEq, Eq)]
 pub enum Kind {
     List,
     Module,
@@ -11,7 +12,7 @@ pub enum Kind {
 }
 
 // What a pass does.
-#[derive(Clone, Copy)]
+#[derive(Clone, Copy, Debug, PartialEq, Eq)]
 pub enum Pass {
     Deliver,
     Picture,
@@ -64,20 +65,28 @@ impl From<Refusal> for Failure {
     }
 }
 
-fn pass_of(word: &str) -> Result<Pass, Failure> {
-    match word {
-        "deliver" => Ok(Pass::Deliver),
-        "picture" => Ok(Pass::Picture),
-        _ => Err(Failure::Usage),
+impl FromStr for Pass {
+    type Err = Failure;
+
+    fn from_str(word: &str) -> Result<Pass, Failure> {
+        match word {
+            "deliver" => Ok(Pass::Deliver),
+            "picture" => Ok(Pass::Picture),
+            _ => Err(Failure::Usage),
+        }
     }
 }
 
-fn kind_of(word: &str) -> Result<Kind, Failure> {
-    match word {
-        "list" => Ok(Kind::List),
-        "module" => Ok(Kind::Module),
-        "window" => Ok(Kind::Window),
-        _ => Err(Failure::Usage),
+impl FromStr for Kind {
+    type Err = Failure;
+
+    fn from_str(word: &str) -> Result<Kind, Failure> {
+        match word {
+            "list" => Ok(Kind::List),
+            "module" => Ok(Kind::Module),
+            "window" => Ok(Kind::Window),
+            _ => Err(Failure::Usage),
+        }
     }
 }
 
@@ -91,11 +100,9 @@ pub(crate) fn called(rt: &HostRuntime) -> Result<Call, Failure> {
     ) else {
         return Err(Failure::Usage);
     };
-    let Ok(times) = times.as_str().parse::<u32>() else {
-        return Err(Failure::Usage);
-    };
-    let pass = pass_of(pass.as_str())?;
-    let kind = kind_of(kind.as_str())?;
+    let times = times.as_str().parse::<u32>().map_err(|_| Failure::Usage)?;
+    let pass = pass.as_str().parse()?;
+    let kind = kind.as_str().parse()?;
     let bytes = fs::read(rt, path.as_str())?;
     Ok(Call {
         pass,
