@@ -1,5 +1,5 @@
 // Bytes that are delivered in parts show what they show at once, wherever they are cut.
-use crate::kinds::{Kind, delivered};
+use crate::kinds::{Kind, delivered, size};
 use std::alloc::Global;
 use std::process::Abort;
 use std::test::Fail;
@@ -18,7 +18,7 @@ fn check_cut(
 ) -> Result<(), Fail> {
     if at <= STREAM.len() {
         let (front, back) = STREAM.split_at(at);
-        let parts = delivered(heap, kind, 2, 5, &[front, b"", back])?;
+        let parts = delivered(heap, kind, size(2, 5), &[front, b"", back])?;
         assert_eq!(rt; parts.as_str(), whole);
     }
     Ok(())
@@ -28,7 +28,7 @@ fn check_cut(
 fn cut_at_every_byte(rt: HostRuntime) -> Result<(), Fail> {
     let heap = rt.alloc();
     for kind in [Kind::List, Kind::WindowOnModule] {
-        let whole = delivered(heap, kind, 2, 5, &[STREAM])?;
+        let whole = delivered(heap, kind, size(2, 5), &[STREAM])?;
         assert_eq!(rt; whole.as_str(), SHOWN);
         for at in 0..STREAM.len() {
             check_cut(&rt, heap, kind, whole.as_str(), at)?;
@@ -41,7 +41,7 @@ fn cut_at_every_byte(rt: HostRuntime) -> Result<(), Fail> {
 fn byte_by_byte(rt: HostRuntime) -> Result<(), Fail> {
     let heap = rt.alloc();
     let bytes: Vec<&[u8]> = STREAM.chunks(1).collect(heap)?;
-    let text = delivered(heap, Kind::Module, 2, 5, bytes.as_slice())?;
+    let text = delivered(heap, Kind::Module, size(2, 5), bytes.as_slice())?;
     assert_eq!(rt; text.as_str(), SHOWN);
     Ok(())
 }

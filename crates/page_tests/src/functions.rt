@@ -1,5 +1,5 @@
 // Every control function on a page of 3 lines and 5 columns that is full, at line 2, column 3.
-use crate::kinds::check_all;
+use crate::kinds::{check_all, size};
 use std::test::Fail;
 
 const FULL: &[u8] = b"ABCDE\r\nFGHIJ\r\nKLMNO\x1b[2;3H";
@@ -109,15 +109,15 @@ const OTHERS: [(&[u8], &str); 22] = [
 
 #[test]
 fn moves(rt: HostRuntime) -> Result<(), Fail> {
-    check_all(&rt, rt.alloc(), 3, 5, FULL, &MOVES)
+    check_all(&rt, rt.alloc(), size(3, 5), FULL, &MOVES)
 }
 
 #[test]
 fn changes(rt: HostRuntime) -> Result<(), Fail> {
-    check_all(&rt, rt.alloc(), 3, 5, FULL, &CHANGES)
+    check_all(&rt, rt.alloc(), size(3, 5), FULL, &CHANGES)
 }
 
 #[test]
 fn others(rt: HostRuntime) -> Result<(), Fail> {
-    check_all(&rt, rt.alloc(), 3, 5, FULL, &OTHERS)
+    check_all(&rt, rt.alloc(), size(3, 5), FULL, &OTHERS)
 }

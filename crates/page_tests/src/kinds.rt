@@ -1,12 +1,12 @@
 // A page on a panel of each kind.
 use crate::text::page_text;
 use page::page::Page;
-use panel::{ERASED, Lent, ListPanel, ModulePanel, Panel, Rectangle, Window};
+use panel::{ERASED, Lent, ListPanel, ModulePanel, Panel, Rectangle, Size, Window};
 use std::alloc::{AllocError, Global};
 use std::process::Abort;
 use std::test::Fail;
 
-#[derive(Clone, Copy)]
+#[derive(Clone, Copy, Debug, PartialEq, Eq)]
 pub enum Kind {
     List,
     Module,
@@ -48,38 +48,6 @@ pub(crate) fn delivered_on<P: Panel>(
     format!(in heap; "{short}{text}")
 }
 
-fn on_list(
-    heap: Global,
-    lines: u16,
-    columns: u16,
-    deliveries: &[&[u8]],
-) -> Result<String, AllocError> {
-    let mut cells = vec![in heap; ERASED; 8778]?;
-    let mut panel = ListPanel::new(cells.as_mut_slice(), lines, columns);
-    delivered_on(heap, &mut panel, deliveries)
-}
-
-fn on_module(
-    heap: Global,
-    lines: u16,
-    columns: u16,
-    deliveries: &[&[u8]],
-) -> Result<String, AllocError> {
-    let mut bytes = vec![in heap; 0xA5; 26334]?;
-    let mut panel = ModulePanel::new(bytes.as_mut_slice(), lines, columns);
-    delivered_on(heap, &mut panel, deliveries)
-}
-
-// The rectangle of a panel that is one line and two columns larger.
-fn inner(lines: u16, columns: u16) -> Rectangle {
-    Rectangle {
-        top: 2,
-        left: 2,
-        lines,
-        columns,
-    }
-}
-
 // The window is made in a function of its own, for any panel that is lent: a function that also makes the panel below is not
 // followed by the checker.
 pub(crate) fn on_window<P: Panel>(
@@ -92,64 +60,88 @@ pub(crate) fn on_window<P: Panel>(
     delivered_on(heap, &mut panel, deliveries)
 }
 
-fn on_window_list(
+// On a panel, or on a window of it.
+fn shown<P: Panel>(
     heap: Global,
-    lines: u16,
-    columns: u16,
+    panel: &mut P,
+    window: Option<Rectangle>,
+    deliveries: &[&[u8]],
+) -> Result<String, AllocError> {
+    match window {
+        None => delivered_on(heap, panel, deliveries),
+        Some(frame) => on_window(heap, panel, frame, deliveries),
+    }
+}
+
+fn on_list(
+    heap: Global,
+    size: Size,
+    window: Option<Rectangle>,
     deliveries: &[&[u8]],
 ) -> Result<String, AllocError> {
     let mut cells = vec![in heap; ERASED; 8778]?;
-    let mut below = ListPanel::new(
-        cells.as_mut_slice(),
-        lines.saturating_add(1),
-        columns.saturating_add(2),
-    );
-    on_window(heap, &mut below, inner(lines, columns), deliveries)
+    let mut panel = ListPanel::new(cells.as_mut_slice(), size);
+    shown(heap, &mut panel, window, deliveries)
 }
 
-fn on_window_module(
+fn on_module(
     heap: Global,
-    lines: u16,
-    columns: u16,
+    size: Size,
+    window: Option<Rectangle>,
     deliveries: &[&[u8]],
 ) -> Result<String, AllocError> {
     let mut bytes = vec![in heap; 0xA5; 26334]?;
-    let mut below = ModulePanel::new(
-        bytes.as_mut_slice(),
-        lines.saturating_add(1),
-        columns.saturating_add(2),
-    );
-    on_window(heap, &mut below, inner(lines, columns), deliveries)
+    let mut panel = ModulePanel::new(bytes.as_mut_slice(), size);
+    shown(heap, &mut panel, window, deliveries)
+}
+
+// A panel below a window has one line and two columns more, and the window lies in it from its second line and column on.
+fn below(size: Size) -> Size {
+    Size {
+        lines: size.lines.saturating_add(1),
+        columns: size.columns.saturating_add(2),
+    }
+}
+
+fn inner(size: Size) -> Rectangle {
+    Rectangle {
+        top: 2,
+        left: 2,
+        lines: size.lines,
+        columns: size.columns,
+    }
 }
 
 pub(crate) fn delivered(
     heap: Global,
     kind: Kind,
-    lines: u16,
-    columns: u16,
+    size: Size,
     deliveries: &[&[u8]],
 ) -> Result<String, AllocError> {
     match kind {
-        Kind::List => on_list(heap, lines, columns, deliveries),
-        Kind::Module => on_module(heap, lines, columns, deliveries),
-        Kind::WindowOnList => on_window_list(heap, lines, columns, deliveries),
-        Kind::WindowOnModule => on_window_module(heap, lines, columns, deliveries),
+        Kind::List => on_list(heap, size, None, deliveries),
+        Kind::Module => on_module(heap, size, None, deliveries),
+        Kind::WindowOnList => on_list(heap, below(size), Some(inner(size)), deliveries),
+        Kind::WindowOnModule => on_module(heap, below(size), Some(inner(size)), deliveries),
     }
+}
+
+pub(crate) fn size(lines: u16, columns: u16) -> Size {
+    Size { lines, columns }
 }
 
 // Bytes after others, and the page's text on every kind of panel.
 pub(crate) fn check_all<'x>(
     rt: &impl Abort,
     heap: Global,
-    lines: u16,
-    columns: u16,
+    size: Size,
     first: &'x [u8],
     rows: &'x [(&'x [u8], &'x str)],
 ) -> Result<(), Fail> {
     for (bytes, text) in rows {
         for kind in KINDS {
             let deliveries = [first, bytes];
-            let shown = delivered(heap, kind, lines, columns, &deliveries)?;
+            let shown = delivered(heap, kind, size, &deliveries)?;
             assert_eq!(rt; shown.as_str(), *text);
         }
     }

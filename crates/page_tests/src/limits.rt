@@ -1,5 +1,5 @@
 // The largest and the smallest: sizes of panels, and lengths of deliveries.
-use crate::kinds::{Kind, check_all, delivered};
+use crate::kinds::{Kind, check_all, delivered, size};
 use std::alloc::Global;
 use std::process::Abort;
 use std::test::Fail;
@@ -12,7 +12,7 @@ fn check_start(
     accepted: bool,
 ) -> Result<(), Fail> {
     for kind in [Kind::List, Kind::Module] {
-        let text = delivered(heap, kind, lines, columns, &[])?;
+        let text = delivered(heap, kind, size(lines, columns), &[])?;
         if accepted {
             assert!(rt; text.as_str() != "refused 1 Size page 0");
         } else {
@@ -58,7 +58,7 @@ fn smallest_pages(rt: HostRuntime) -> Result<(), Fail> {
         (b"A\t\x0b\x1b[9;9H\x1b[Z", "A 1;1"),
         (b"A\x1b[1K", ". 1;1"),
     ];
-    check_all(&rt, rt.alloc(), 1, 1, b"", &one)?;
+    check_all(&rt, rt.alloc(), size(1, 1), b"", &one)?;
     let column = [
         (b"" as &[u8], "A|B|C 3;1"),
         (b"\n", "B|C|. 3;1"),
@@ -67,7 +67,7 @@ fn smallest_pages(rt: HostRuntime) -> Result<(), Fail> {
         (b"\x1b[H\x1b[T", ".|A|B 1;1"),
         (b"\x1b[2d\x1b[1J", ".|.|C 2;1"),
     ];
-    check_all(&rt, rt.alloc(), 3, 1, b"A\nB\nC", &column)
+    check_all(&rt, rt.alloc(), size(3, 1), b"A\nB\nC", &column)
 }
 
 #[test]
@@ -75,10 +75,10 @@ fn lengths(rt: HostRuntime) -> Result<(), Fail> {
     let heap = rt.alloc();
     for kind in [Kind::List, Kind::Module] {
         let longest = vec![in heap; b'A'; 4096]?;
-        let text = delivered(heap, kind, 1, 3, &[longest.as_slice(), b""])?;
+        let text = delivered(heap, kind, size(1, 3), &[longest.as_slice(), b""])?;
         assert_eq!(rt; text.as_str(), "AAA 1;3");
         let longer = vec![in heap; b'A'; 4097]?;
-        let text = delivered(heap, kind, 1, 3, &[longer.as_slice()])?;
+        let text = delivered(heap, kind, size(1, 3), &[longer.as_slice()])?;
         assert_eq!(rt; text.as_str(), "refused 3 Long page 0");
     }
     Ok(())
@@ -92,8 +92,7 @@ fn largest_page(rt: HostRuntime) -> Result<(), Fail> {
         let whole = delivered(
             heap,
             kind,
-            64,
-            132,
+            size(64, 132),
             &[b"\x1b[3g\x1b[63;132HZ\x1b[H\x1b[T\x1b[64;132H"],
         )?;
         assert!(rt;

@@ -1,5 +1,5 @@
 // Nine cases on a page of 2 lines and 5 columns, each a point where terminals differ.
-use crate::kinds::check_all;
+use crate::kinds::{check_all, size};
 use std::test::Fail;
 
 const CASES: [(&[u8], &str); 9] = [
@@ -27,5 +27,5 @@ const CASES: [(&[u8], &str); 9] = [
 
 #[test]
 fn marked_cases(rt: HostRuntime) -> Result<(), Fail> {
-    check_all(&rt, rt.alloc(), 2, 5, b"", &CASES)
+    check_all(&rt, rt.alloc(), size(2, 5), b"", &CASES)
 }

@@ -1,5 +1,5 @@
 // Refusals in their order: each leaves the page, the cells and the memory beyond them as they were.
-use crate::kinds::on_window;
+use crate::kinds::{on_window, size};
 use crate::text::{cells_text, page_text};
 use page::page::Page;
 use panel::{Cell, ListPanel, Panel, Rectangle};
@@ -65,7 +65,7 @@ fn before_start(rt: HostRuntime) -> Result<(), Fail> {
     let mut page = Page::new();
     let mut cells = [MARK; 11];
     let long = vec![in heap; b'A'; 4097]?;
-    let mut panel = ListPanel::new(&mut cells, 2, 5);
+    let mut panel = ListPanel::new(&mut cells, size(2, 5));
     check_refused(&rt, heap, &mut page, &mut panel, b"", "2 Stranger page 0")?;
     check_refused(
         &rt,
@@ -76,7 +76,7 @@ fn before_start(rt: HostRuntime) -> Result<(), Fail> {
         "2 Stranger page 0",
     )?;
     let mut none = [MARK; 9];
-    let mut short = ListPanel::new(&mut none, 2, 5);
+    let mut short = ListPanel::new(&mut none, size(2, 5));
     assert_eq!(rt;
         start_text(heap, &mut page, &mut short)?.as_str(),
         "1 Size page 0"
@@ -95,8 +95,8 @@ fn after_start(rt: HostRuntime) -> Result<(), Fail> {
     let mut cells = [MARK; 11];
     let mut other = [MARK; 8];
     let long = vec![in heap; b'A'; 4097]?;
-    let mut panel = ListPanel::new(&mut cells, 2, 5);
-    let mut narrow = ListPanel::new(&mut other, 2, 4);
+    let mut panel = ListPanel::new(&mut cells, size(2, 5));
+    let mut narrow = ListPanel::new(&mut other, size(2, 4));
     assert_eq!(rt;
         start_text(heap, &mut page, &mut panel)?.as_str(),
         "started"
@@ -151,9 +151,9 @@ fn start_again(rt: HostRuntime) -> Result<(), Fail> {
     let mut cells = [MARK; 10];
     let mut few = [MARK; 3];
     let mut more = [MARK; 4];
-    let mut panel = ListPanel::new(&mut cells, 2, 5);
-    let mut bad = ListPanel::new(&mut few, 2, 2);
-    let mut small = ListPanel::new(&mut more, 2, 2);
+    let mut panel = ListPanel::new(&mut cells, size(2, 5));
+    let mut bad = ListPanel::new(&mut few, size(2, 2));
+    let mut small = ListPanel::new(&mut more, size(2, 2));
     assert_eq!(rt;
         start_text(heap, &mut page, &mut panel)?.as_str(),
         "started"
@@ -193,7 +193,7 @@ fn beside_a_window(rt: HostRuntime) -> Result<(), Fail> {
         lines: 2,
         columns: 2,
     };
-    let mut below = ListPanel::new(&mut cells, 3, 4);
+    let mut below = ListPanel::new(&mut cells, size(3, 4));
     let shown = on_window(heap, &mut below, frame, &[b"AB\r\nCD\n\x1b[L"])?;
     assert_eq!(rt; shown.as_str(), "CD|.. 2;1");
     assert_eq!(rt;

@@ -1,5 +1,5 @@
 // SGR, with and without combination.
-use crate::kinds::check_all;
+use crate::kinds::{check_all, size};
 use std::test::Fail;
 
 // Each from the default rendition, replacing.
@@ -57,10 +57,10 @@ const COMBINING: [(&[u8], &str); 13] = [
 
 #[test]
 fn replacing(rt: HostRuntime) -> Result<(), Fail> {
-    check_all(&rt, rt.alloc(), 1, 1, b"", &REPLACING)
+    check_all(&rt, rt.alloc(), size(1, 1), b"", &REPLACING)
 }
 
 #[test]
 fn combining(rt: HostRuntime) -> Result<(), Fail> {
-    check_all(&rt, rt.alloc(), 1, 1, ALL, &COMBINING)
+    check_all(&rt, rt.alloc(), size(1, 1), ALL, &COMBINING)
 }

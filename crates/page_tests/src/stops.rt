@@ -1,5 +1,5 @@
 // Stops, on a page of 4 lines and 20 columns.
-use crate::kinds::check_all;
+use crate::kinds::{check_all, size};
 use std::test::Fail;
 
 const NO_CELLS: &str =
@@ -45,7 +45,7 @@ const ROWS: [(&[u8], &str); 23] = [
 fn stops(rt: HostRuntime) -> Result<(), Fail> {
     for (bytes, state) in ROWS {
         let text = format!(in rt.alloc(); "{NO_CELLS} {state}")?;
-        check_all(&rt, rt.alloc(), 4, 20, b"", &[(bytes, text.as_str())])?;
+        check_all(&rt, rt.alloc(), size(4, 20), b"", &[(bytes, text.as_str())])?;
     }
     Ok(())
 }
@@ -56,17 +56,15 @@ fn first_stops(rt: HostRuntime) -> Result<(), Fail> {
     check_all(
         &rt,
         rt.alloc(),
-        1,
-        9,
+        size(1, 9),
         b"",
         &[(b"\t", "......... 1;9 stops 9")],
     )?;
-    check_all(&rt, rt.alloc(), 1, 8, b"", &[(b"\t", "........ 1;8")])?;
+    check_all(&rt, rt.alloc(), size(1, 8), b"", &[(b"\t", "........ 1;8")])?;
     check_all(
         &rt,
         rt.alloc(),
-        4,
-        5,
+        size(4, 5),
         b"",
         &[(b"A\x0b", "A....|.....|.....|..... 4;2")],
     )
