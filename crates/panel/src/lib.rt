@@ -27,6 +27,7 @@ mod clearing;
 mod lines;
 mod list;
 mod module;
+mod planes;
 mod positions;
 mod rectangle;
 mod shifting;
