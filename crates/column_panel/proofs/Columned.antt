@@ -11,7 +11,7 @@ use Rattle.panel.proofs.Places.{columns_some}
 use Rattle.panel.proofs.Seen.{get_or_seen, seen_set}
 use Rattle.column_panel.specs.Columned.{stored_at, columned_if, columned}
 
--- every cell is stored in the part of the memory that is the panel's
+-- every cell is stored in the part of the memory that is the panel's (the lemma of this name in `panel` is of another layout)
 pub stored_lt : (l c k : ℕ) → k < l * c → stored_at l c k < l * c
 stored_lt l c k h =
     let p = columns_some l c k h in

@@ -7,7 +7,7 @@ use Rattle.panel.specs.declared.cell.Cell.{Cell}
 use Rattle.panel.specs.declared.list.ListPanel.{ListPanel}
 use Rattle.panel.specs.declared.module.ModulePanel.{ModulePanel}
 use Rattle.panel.specs.Grids.{erased}
-use Rattle.panel.specs.Memories.{fitting, roomy, roomy_true}
+use Rattle.panel.specs.Memories.{fitting}
 use Rattle.panel.specs.Clears.{clear_on, cells_cleared, bytes_cleared}
 use Rattle.panel.specs.Screens.{Screen, Beyond, nothing, cells_past, bytes_past, around, lent}
 use Rattle.panel.specs.Listed.{listed_if, listed, list_shows}
@@ -33,15 +33,9 @@ cells_of (lent loan b) = []
 abbrev pub memory_of : Screen → List Cell
 memory_of s = s.grid.cells ++ cells_of s.beyond
 
-listed_memory : (b : Bool) (loan l c : ℕ) (xs : List Cell) → (loan ≡ loan_of (listed_if b loan l c xs).beyond) × (xs ≡ memory_of (listed_if b loan l c xs))
-listed_memory true loan l c xs = (refl, sym (take-append-drop (l * c) xs))
-listed_memory false loan l c xs = (refl, refl)
-
 -- what is shown tells the memory
 pub list_memory : (p : ListPanel) (s : Screen) → list_shows p ≡ s → (p.cells.ghost_name ≡ loan_of s.beyond) × (p.cells.now ≡ memory_of s)
-list_memory p s e =
-    let m = listed_memory (roomy p.size (length p.cells.now)) p.cells.ghost_name p.size.lines p.size.columns p.cells.now in
-    (m.0 ∙ ap (λ z. loan_of z.beyond) e, m.1 ∙ ap memory_of e)
+list_memory p s e = (ap (λ z. loan_of z.beyond) e, sym (take-append-drop (p.size.lines * p.size.columns) p.cells.now) ∙ ap memory_of e)
 
 -- after all cells of a panel made on lent memory are erased
 cleared_if : (b : Bool) (loan l c : ℕ) (xs : List Cell) →
@@ -70,14 +64,9 @@ pub record Planes (s : Screen) (loan : ℕ) (bytes : List ℕ) : Type 0 where
   pub cells : module_cells s.grid.lines s.grid.columns bytes ≡ s.grid.cells
   pub past : drop (3 * (s.grid.lines * s.grid.columns)) bytes ≡ bytes_of s.beyond
 
-planes_if : (b : Bool) (loan l c : ℕ) (bytes : List ℕ) → (b ≡ true → 3 * (l * c) ≤ length bytes) → Planes (moduled_if b loan l c bytes) loan bytes
-planes_if true loan l c bytes r = record { by = refl; room = r refl; cells = refl; past = refl }
-planes_if false loan l c bytes r = record { by = refl; room = omega arith; cells = refl; past = refl }
-
 -- what is shown tells the bytes
 pub module_memory : (p : ModulePanel) (s : Screen) → module_shows p ≡ s → Planes s p.bytes.ghost_name p.bytes.now
-module_memory p s e =
-    rw (← e) (planes_if (roomy p.size (length p.bytes.now / 3)) p.bytes.ghost_name p.size.lines p.size.columns p.bytes.now (λ t. let h = (roomy_true p.size _ t).fits in omega arith))
+module_memory p s e = rw (← e) (record { by = refl; room = p.room; cells = refl; past = refl })
 
 -- planes that hold erased cells hold zeros
 zero_cell : (l c : ℕ) (bytes : List ℕ) → module_cells l c bytes ≡ replicate (l * c) erased → (j : ℕ) → j < l * c → gathered (l * c) bytes j ≡ erased

@@ -1,5 +1,6 @@
 pub mod Wiped
 pub mod Places
+pub mod Reading
 pub mod Listed
 pub mod Moduled
 pub mod Replaced

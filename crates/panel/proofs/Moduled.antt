@@ -7,12 +7,10 @@ use Rattle.std.proofs.lemmas.Bool.{cases_Bool, cases_eq, cases_lt, cond-true, co
 use Rattle.std.proofs.lemmas.List.{length-set, drop-set-lt, ext_get_or, get_or-set_same, get_or-set_other}
 use Rattle.refusal.specs.Table.{accepted}
 use Rattle.panel.specs.declared.cell.Cell.{Cell}
-use Rattle.panel.specs.declared.module.ModulePanel.{ModulePanel}
 use Rattle.panel.specs.declared.size.Size.{Size}
 use Rattle.panel.specs.Grids.{Grid, erased, on, cell_answer, size_of, within, with_cells, InLine}
 use Rattle.panel.specs.Screens.{Screen, Sound, bytes_past, with_grid, put_on, wipe_on}
-use Rattle.panel.specs.Memories.{roomy, roomy_true}
-use Rattle.panel.specs.Moduled.{row_of, stored_at, gathered, scattered, moduled_if, module_shows}
+use Rattle.panel.specs.Moduled.{row_of, stored_at, gathered, scattered, laid_in_planes}
 use Rattle.panel.proofs.Wiped.{wiped_more}
 use Rattle.panel.proofs.Places.{columns_some, Within, within_true}
 
@@ -96,11 +94,6 @@ set_cells l c mem k x room h =
     ∙ sym (get_or-set_other (map old (range_with_len 0 n)) k i x erased ne ∙ get_or-map-range_with_len old 0 n i i erased m (omega arith)))
     (cases_eq i k))
 
--- the panel's room for its cells: three planes of n bytes
-pub record Laid (b : Bool) (l c n : ℕ) (bytes : List ℕ) : Type 0 where
-  pub product : n ≡ l * c
-  pub room : b ≡ true → 3 * (l * c) ≤ length bytes
-
 -- where a line and column, counted from 0, are stored
 pub record Stored (s : Screen) (line column at : ℕ) : Type 0 where
   pub line_low : line < s.grid.lines
@@ -115,65 +108,36 @@ stored_index l c line column h =
 index_low : (l c line column : ℕ) → line < l → column < c → line * c + column < l * c
 index_low l c line column a b = omega (arith, mul-add-lt line c column l a b)
 
-put_if : (b : Bool) (loan l c n : ℕ) (bytes : List ℕ) (line column at : ℕ) (x : Cell) → Laid b l c n bytes → Stored (moduled_if b loan l c bytes) line column at →
-    moduled_if b loan l c (scattered n bytes at x) ≡ put_on (moduled_if b loan l c bytes) (line * (moduled_if b loan l c bytes).grid.columns + column) x
-put_if true loan l c n bytes line column at x laid st =
-    let k = line * c + column in
-    let low = index_low l c line column st.line_low st.column_low in
-    let e : at ≡ stored_at l c k = st.is ∙ sym (stored_index l c line column st.column_low) in
-    ap (λ z. moduled_if true loan l c (scattered z bytes at x)) laid.product
-    ∙ ap (λ z. moduled_if true loan l c (scattered (l * c) bytes z x)) e
-    ∙ ap (λ z. record { grid = record { lines = l; columns = c; cells = z }; beyond = bytes_past loan (drop (3 * (l * c)) (scattered (l * c) bytes (stored_at l c k) x)) }) (set_cells l c bytes k x (laid.room refl) low)
-    ∙ ap (λ z. put_on (record { grid = (moduled_if true loan l c bytes).grid; beyond = bytes_past loan z }) k x) (drop_scattered (l * c) bytes (stored_at l c k) x (laid.room refl) (stored_lt l c k low))
-put_if false loan l c n bytes line column at x laid st = absurd (omega (arith, st.line_low))
-
-cell_if : (b : Bool) (loan l c n : ℕ) (bytes : List ℕ) (line column at : ℕ) → Laid b l c n bytes → Stored (moduled_if b loan l c bytes) line column at →
-    gathered n bytes at ≡ get_or (moduled_if b loan l c bytes).grid.cells (line * (moduled_if b loan l c bytes).grid.columns + column) erased
-cell_if true loan l c n bytes line column at laid st =
-    let k = line * c + column in
-    let low = index_low l c line column st.line_low st.column_low in
-    let e : at ≡ stored_at l c k = st.is ∙ sym (stored_index l c line column st.column_low) in
-    ap (λ z. gathered z bytes at) laid.product ∙ ap (gathered (l * c) bytes) e
-    ∙ sym (get_or-map-range_with_len (λ i. gathered (l * c) bytes (stored_at l c i)) 0 (l * c) k k erased low (omega arith))
-cell_if false loan l c n bytes line column at laid st = absurd (omega (arith, st.line_low))
-
-room_if : (b : Bool) (loan l c n : ℕ) (bytes : List ℕ) (line column at : ℕ) → Laid b l c n bytes → Stored (moduled_if b loan l c bytes) line column at → 2 * n + at < length bytes
-room_if true loan l c n bytes line column at laid st =
-    let e = laid.product in
-    let k = line * c + column in
-    let low = index_low l c line column st.line_low st.column_low in
-    let is : at ≡ stored_at l c k = st.is ∙ sym (stored_index l c line column st.column_low) in
-    omega (arith, is, stored_lt l c k low, laid.room refl)
-room_if false loan l c n bytes line column at laid st = absurd (omega (arith, st.line_low))
-
-module _ (p : ModulePanel) where
-  abbrev bytes : List ℕ
-  bytes = p.bytes.now
-
+-- bytes with room for the planes of so many lines and columns
+module _ (loan l c : ℕ) (bytes : List ℕ) (room : 3 * (l * c) ≤ length bytes) where
   abbrev s : Screen
-  s = module_shows p
+  s = laid_in_planes loan l c bytes
 
-  abbrev test : Bool
-  test = roomy p.size (length p.bytes.now / 3)
+  module _ (line column at : ℕ) (st : Stored s line column at) where
+    abbrev k : ℕ
+    k = line * c + column
 
-  laid : Laid test p.size.lines p.size.columns (p.size.lines * p.size.columns) bytes
-  laid = record { product = refl; room = λ t. let h = (roomy_true p.size _ t).fits in omega arith }
+    low : k < l * c
+    low = index_low l c line column st.line_low st.column_low
 
-  -- the same panel with other bytes behind it
-  abbrev pub with_bytes : List ℕ → Screen
-  with_bytes ys = moduled_if (roomy p.size (length ys / 3)) p.bytes.ghost_name p.size.lines p.size.columns ys
+    place : at ≡ stored_at l c k
+    place = st.is ∙ sym (stored_index l c line column st.column_low)
 
-  pub module_put : (line column at : ℕ) (x : Cell) → Stored s line column at → with_bytes (scattered (p.size.lines * p.size.columns) bytes at x) ≡ put_on s (line * s.grid.columns + column) x
-  module_put line column at x st =
-      ap (λ z. moduled_if (roomy p.size (z / 3)) p.bytes.ghost_name p.size.lines p.size.columns (scattered (p.size.lines * p.size.columns) bytes at x)) (length-set _ _ _ ∙ length-set _ _ _ ∙ length-set _ _ _)
-      ∙ put_if test p.bytes.ghost_name p.size.lines p.size.columns (p.size.lines * p.size.columns) bytes line column at x laid st
+    pub module_put : (x : Cell) → laid_in_planes loan l c (scattered (l * c) bytes at x) ≡ put_on s k x
+    module_put x =
+        ap (λ z. laid_in_planes loan l c (scattered (l * c) bytes z x)) place
+        ∙ (λ i. record { grid = record { lines = l; columns = c; cells = set_cells l c bytes k x room low i }; beyond = bytes_past loan (drop_scattered (l * c) bytes (stored_at l c k) x room (stored_lt l c k low) i) })
 
-  pub module_room : (line column at : ℕ) → Stored s line column at → 2 * (p.size.lines * p.size.columns) + at < length bytes
-  module_room line column at st = room_if test p.bytes.ghost_name p.size.lines p.size.columns (p.size.lines * p.size.columns) bytes line column at laid st
+    pub module_room : 2 * (l * c) + at < length bytes
+    module_room = omega (arith, place, stored_lt l c k low, room)
 
-  pub module_cell : (line column at : ℕ) → on s.grid line column ≡ true → Stored s (line - 1) (column - 1) at → accepted (gathered (p.size.lines * p.size.columns) bytes at) ≡ cell_answer s.grid line column
-  module_cell line column at t st =
-      ap accepted (cell_if test p.bytes.ghost_name p.size.lines p.size.columns (p.size.lines * p.size.columns) bytes (line - 1) (column - 1) at laid st) ∙ sym (cond-true _ _ _ t)
+    pub module_gathered : gathered (l * c) bytes at ≡ get_or s.grid.cells k erased
+    module_gathered =
+        ap (gathered (l * c) bytes) place
+        ∙ sym (get_or-map-range_with_len (λ i. gathered (l * c) bytes (stored_at l c i)) 0 (l * c) k k erased low (omega arith))
+
+  pub module_cell : (line column at : ℕ) → on s.grid line column ≡ true → Stored s (line - 1) (column - 1) at → accepted (gathered (l * c) bytes at) ≡ cell_answer s.grid line column
+  module_cell line column at t st = ap accepted (module_gathered (line - 1) (column - 1) at st) ∙ sym (cond-true _ _ _ t)
 
 -- a line and column on the panel, counted from 0
 pub record Low (g : Grid) (line column : ℕ) : Type 0 where

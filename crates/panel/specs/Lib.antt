@@ -1,6 +1,7 @@
 pub mod Grids
 pub mod Screens
 pub mod Places
+pub mod Reading
 pub mod Memories
 pub mod Listed
 pub mod Moduled

@@ -4,6 +4,8 @@
 // changes; a call that names a cell off the panel is refused and changes nothing. `ListPanel` and `ModulePanel` work on memory
 // that is lent, `Window` shows a rectangle of any panel, and `Lent` is a panel that is lent for a while.
 //
+// `Size::positions` goes over the positions of a size in reading order, one for each cell.
+//
 // For any panel: `shift` moves the cells of a rectangle within it, and `clear` erases all. `clear_cells` and `clear_bytes` do that
 // to memory, and say of each element what it holds afterwards.
 //
@@ -25,6 +27,8 @@ mod clearing;
 mod lines;
 mod list;
 mod module;
+mod planes;
+mod positions;
 mod rectangle;
 mod shifting;
 mod size;
@@ -35,6 +39,7 @@ pub use cell::{Cell, ERASED, Position};
 pub use clearing::{clear, clear_bytes, clear_cells};
 pub use list::ListPanel;
 pub use module::ModulePanel;
+pub use positions::Positions;
 pub use rectangle::Rectangle;
 pub use shifting::{Direction, shift};
 pub use size::{NO_SIZE, Size};
@@ -86,6 +91,7 @@ pub trait Panel {
         if !size.has_part(to, count) {
             return Err(to.outside());
         }
+        // Two loops: one body for both would have to ask at each cell which one comes next.
         if from.line != to.line || to.column <= from.column {
             for i in 0..count {
                 let Ok(cell) = self.cell(from.right_by(i)) else {

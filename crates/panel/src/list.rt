@@ -1,18 +1,33 @@
 // The list panel: cells that are lent, line by line.
-ghost use Rattle.std.specs.Prelude.{◌≡◌};
-ghost use Rattle.panel.specs.Listed.{listed, list_shows, list_sound};
+ghost use Rattle.std.specs.Prelude.{◌≡◌, ◌*◌, ◌≤◌, length};
 
-use crate::{Cell, ERASED, Panel, Position, Size};
+use crate::{Cell, ERASED, NO_SIZE, Panel, Position, Size};
 use refusal::Refusal;
 use std::mem::take;
 
-#[derive(Drop, Default)]
+// The memory has room for all cells: that is part of the type.
+#[derive(Drop)]
 pub struct ListPanel<'a> {
     cells: &'a mut [Cell],
     size: Size,
+    ghost few_lines: { size.lines ≤ 64 },
+    ghost few_columns: { size.columns ≤ 132 },
+    ghost room: { size.lines * size.columns ≤ length cells.now },
+}
+
+// Without lines and columns, on no memory.
+impl Default for ListPanel<'_> {
+    fn default() -> Self {
+        ListPanel {
+            cells: &mut [],
+            size: NO_SIZE,
+        }
+    }
 }
 
 impl<'a> ListPanel<'a> {
+    ghost use Rattle.panel.specs.Listed.{listed, list_shows};
+
     // A panel on memory that is lent. A size outside 1 to 64 lines by 1 to 132 columns, or memory that is too short for it,
     // makes a panel with no lines and no columns. No cell is changed.
     pub fn new(cells: &'a mut [Cell], size: Size) -> ListPanel<'a>
@@ -24,24 +39,26 @@ impl<'a> ListPanel<'a> {
 }
 
 impl Panel for ListPanel<'_> {
+    ghost use Rattle.panel.specs.Listed.{list_shows, list_sound};
+
     ghost shows = { list_shows };
 
     ghost sound = { list_sound };
 
     fn size(&self) -> Size {
-        self.size.if_room(self.cells.len())
+        self.size
     }
 
     fn cell(&self, at: Position) -> Result<Cell, Refusal> {
         // Not by `ok_or(..)?`, nor in `set`: shifts of a list panel then took half as long again.
-        let Some(k) = self.size().find(at) else {
+        let Some(k) = self.size.find(at) else {
             return Err(at.outside());
         };
         Ok(self.cells[k])
     }
 
     fn set(&mut self, at: Position, cell: Cell) -> Result<(), Refusal> {
-        let Some(k) = self.size().find(at) else {
+        let Some(k) = self.size.find(at) else {
             return Err(at.outside());
         };
         self.cells[k] = cell;
@@ -49,7 +66,7 @@ impl Panel for ListPanel<'_> {
     }
 
     fn erase(&mut self, from: Position, count: usize) -> Result<(), Refusal> {
-        let k = self.size().find_run(from, count).ok_or(from.outside())?;
+        let k = self.size.find_run(from, count).ok_or(from.outside())?;
         self.cells[k..k + count].fill(ERASED);
         Ok(())
     }

@@ -3,53 +3,36 @@
 ghost use Rattle.std.specs.Prelude.{◌≡◌, ℕ, ◌+◌, ◌-◌, ◌*◌, ◌/◌, ◌%◌, ◌<◌, ◌≤◌, length};
 ghost use Rattle.panel.specs.Screens.{put_on, wipe_on};
 ghost use Rattle.panel.specs.Grids.{InLine, erased};
-ghost use Rattle.panel.specs.Moduled.{row_of, gathered, scattered, moduled, module_shows, module_sound};
 
 use crate::lines::Lines;
-use crate::{Cell, ERASED, Panel, Position, Size};
+use crate::planes::{gather, plane_row, scatter};
+use crate::{Cell, ERASED, NO_SIZE, Panel, Position, Size};
 use refusal::Refusal;
 use std::mem::take;
 
-#[derive(Drop, Default)]
+// The memory has room for all planes: that is part of the type.
+#[derive(Drop)]
 pub struct ModulePanel<'a> {
     bytes: &'a mut [u8],
     size: Size,
+    ghost few_lines: { size.lines ≤ 64 },
+    ghost few_columns: { size.columns ≤ 132 },
+    ghost room: { 3 * (size.lines * size.columns) ≤ length bytes.now },
 }
 
-// The row in a plane of a line, both counted from 0: the odd lines, counted from 1, are in front.
-fn plane_row(lines: usize, line: usize) -> usize
-    requires { (line < lines) × (lines < 65536) }
-    ensures { result ≡ row_of lines line }
-{
-    if line % 2 == 0 {
-        line / 2
-    } else {
-        (lines + 1) / 2 + line / 2
+// Without lines and columns, on no memory.
+impl Default for ModulePanel<'_> {
+    fn default() -> Self {
+        ModulePanel {
+            bytes: &mut [],
+            size: NO_SIZE,
+        }
     }
-}
-
-// The cell at the place `at` of planes of `n` bytes.
-fn gather(bytes: &[u8], n: usize, at: usize) -> Cell
-    requires { 2 * n + at < length bytes.now }
-    ensures { result ≡ gathered n bytes.now at }
-{
-    Cell {
-        code: bytes[at],
-        rendition: bytes[n + at] as u16 + 256 * bytes[2 * n + at] as u16,
-    }
-}
-
-// Puts a cell at the place `at` of planes of `n` bytes.
-fn scatter(bytes: &mut [u8], n: usize, at: usize, cell: Cell)
-    requires { 2 * n + at < length bytes.old }
-    ensures { bytes.new ≡ scattered n bytes.old at cell }
-{
-    bytes[at] = cell.code;
-    bytes[n + at] = (cell.rendition % 256) as u8;
-    bytes[2 * n + at] = (cell.rendition / 256) as u8;
 }
 
 impl<'a> ModulePanel<'a> {
+    ghost use Rattle.panel.specs.Moduled.{row_of, moduled, module_shows};
+
     // A panel on memory that is lent. A size outside 1 to 64 lines by 1 to 132 columns, or memory that is too short for it,
     // makes a panel with no lines and no columns. No byte is changed.
     pub fn new(bytes: &'a mut [u8], size: Size) -> ModulePanel<'a>
@@ -78,12 +61,14 @@ impl<'a> ModulePanel<'a> {
 }
 
 impl Lines for ModulePanel<'_> {
+    ghost use Rattle.panel.specs.Moduled.{module_shows, module_sound};
+
     ghost seen = { module_shows };
 
     ghost seen_sound = { module_sound };
 
     fn columns(&self) -> usize {
-        self.size().columns as usize
+        self.size.columns as usize
     }
 
     fn erase_in_line(&mut self, at: usize, count: usize) {
@@ -97,16 +82,18 @@ impl Lines for ModulePanel<'_> {
 }
 
 impl Panel for ModulePanel<'_> {
+    ghost use Rattle.panel.specs.Moduled.{module_shows, module_sound};
+
     ghost shows = { module_shows };
 
     ghost sound = { module_sound };
 
     fn size(&self) -> Size {
-        self.size.if_room(self.bytes.len() / 3)
+        self.size
     }
 
     fn cell(&self, at: Position) -> Result<Cell, Refusal> {
-        if self.size().has(at) {
+        if self.size.has(at) {
             let k = self.stored(at.line as usize - 1, at.column as usize - 1);
             Ok(gather(self.bytes, self.size.count(), k))
         } else {
@@ -115,7 +102,7 @@ impl Panel for ModulePanel<'_> {
     }
 
     fn set(&mut self, at: Position, cell: Cell) -> Result<(), Refusal> {
-        if self.size().has(at) {
+        if self.size.has(at) {
             self.put(at.line as usize - 1, at.column as usize - 1, cell);
             Ok(())
         } else {
@@ -124,7 +111,7 @@ impl Panel for ModulePanel<'_> {
     }
 
     fn erase(&mut self, from: Position, count: usize) -> Result<(), Refusal> {
-        let k = self.size().find_run(from, count).ok_or(from.outside())?;
+        let k = self.size.find_run(from, count).ok_or(from.outside())?;
         // As the list panel does for a copy, the call takes the panel into its own hands for a while.
         let mut panel = take(self);
         panel.erase_from(k, count);

@@ -1,6 +1,6 @@
 // A rectangle of a panel: where it begins, and how many lines and columns it has.
 ghost use Rattle.std.specs.Prelude.{◌≡◌};
-ghost use Rattle.panel.specs.Rectangles.{inside};
+ghost use Rattle.panel.specs.Rectangles.{part_of, inside};
 
 use crate::{Position, Size};
 
@@ -12,17 +12,19 @@ pub struct Rectangle {
     pub columns: u16,
 }
 
+// Whether some lines, or columns, from a first one on are at least one, and end inside.
+fn part_of(all: u16, first: u16, count: u16) -> bool
+    ensures { result ≡ part_of all first count }
+{
+    1 <= first && 1 <= count && first as u32 + count as u32 <= all as u32 + 1
+}
+
 impl Rectangle {
     // Whether its four numbers are at least 1 and it ends inside a panel of this size.
     pub fn is_inside(self, size: Size) -> bool
         ensures { result ≡ inside size.lines size.columns self }
     {
-        1 <= self.top
-            && 1 <= self.lines
-            && self.top as u32 + self.lines as u32 <= size.lines as u32 + 1
-            && 1 <= self.left
-            && 1 <= self.columns
-            && self.left as u32 + self.columns as u32 <= size.columns as u32 + 1
+        part_of(size.lines, self.top, self.lines) && part_of(size.columns, self.left, self.columns)
     }
 
     // The size of a panel that shows just it.

@@ -43,6 +43,7 @@ impl Size {
     pub fn find(self, at: Position) -> Option<usize>
         ensures { result ≡ located self at.line at.column }
     {
+        // Not by `then`: for its subtractions the closure would need a contract of its own.
         if self.has(at) {
             Some((at.line as usize - 1) * self.columns as usize + (at.column as usize - 1))
         } else {

@@ -42,38 +42,19 @@ pub fn outside(line: u16, column: u16) -> Result<(), Refusal> {
 
 // Sets the cells of a panel, from its first one on, to those of a text.
 pub fn write<P: Panel>(panel: &mut P, text: &[u8]) {
-    let size = panel.size();
-    let mut line = 1u16;
-    let mut column = 1u16;
-    for byte in text {
-        let _ = panel.set(at(line, column), cell_for(*byte));
-        if column < size.columns {
-            column += 1;
-        } else {
-            column = 1;
-            line = line.saturating_add(1);
-        }
+    for (at, byte) in panel.size().positions().zip(text) {
+        let _ = panel.set(at, cell_for(*byte));
     }
 }
 
 // Whether the cells of a panel are those of a text.
 pub fn reads<P: Panel>(panel: &P, text: &[u8]) -> bool {
     let size = panel.size();
-    let mut same = size.lines as usize * size.columns as usize == text.len();
-    let mut line = 1u16;
-    let mut column = 1u16;
-    for byte in text {
-        if panel.cell(at(line, column)) != Ok(cell_for(*byte)) {
-            same = false;
-        }
-        if column < size.columns {
-            column += 1;
-        } else {
-            column = 1;
-            line = line.saturating_add(1);
-        }
-    }
-    same
+    size.lines as usize * size.columns as usize == text.len()
+        && size
+            .positions()
+            .zip(text)
+            .all(|(at, byte)| panel.cell(at) == Ok(cell_for(*byte)))
 }
 
 pub fn rectangle(top: u16, left: u16, lines: u16, columns: u16) -> Rectangle {

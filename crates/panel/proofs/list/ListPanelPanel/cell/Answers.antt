@@ -1,3 +1,4 @@
+use Rattle.std.proofs.Common.{refl}
 use Rattle.panel.specs.Listed.{list_shows}
 use Rattle.panel.proofs.Places.{located_at}
 use Rattle.panel.proofs.Listed.{list_index, list_cell}
@@ -6,9 +7,9 @@ use Rattle.panel.proofs.list.ListPanelPanel.cell.Goals as goal
 pub bounds-self-k : goal.bounds-self-k
 bounds-self-k c =
     let p = c.args.self.now in
-    list_index p _ _ _ (located_at (list_shows p).grid _ _ _ _ c.size.ensures c.in-Some.ensures)
+    list_index p.cells.ghost_name _ _ _ p.room _ _ _ (located_at (list_shows p).grid _ _ _ _ refl c.in-Some.ensures)
 
 pub returns : goal.returns
 returns c =
     let p = c.args.self.now in
-    list_cell p _ _ _ (located_at (list_shows p).grid _ _ _ _ c.size.ensures c.in-Some.ensures)
+    list_cell p.cells.ghost_name _ _ _ p.room _ _ _ (located_at (list_shows p).grid _ _ _ _ refl c.in-Some.ensures)

@@ -1,4 +1,4 @@
-use Rattle.std.proofs.Common.{sym}
+use Rattle.std.proofs.Common.{sym, refl}
 use Rattle.std.proofs.lemmas.Bool.{cond-true}
 use Rattle.panel.specs.Listed.{list_shows}
 use Rattle.panel.proofs.Places.{located_at}
@@ -8,10 +8,10 @@ use Rattle.panel.proofs.list.ListPanelPanel.set.Goals as goal
 pub bounds-self-k : goal.bounds-self-k
 bounds-self-k c =
     let p = c.args.self.now in
-    list_index p _ _ _ (located_at (list_shows p).grid _ _ _ _ c.size.ensures c.in-Some.ensures)
+    list_index p.cells.ghost_name _ _ _ p.room _ _ _ (located_at (list_shows p).grid _ _ _ _ refl c.in-Some.ensures)
 
 pub returns : goal.returns
 returns c =
     let p = c.args.self.now in
-    let a = located_at (list_shows p).grid _ _ _ _ c.size.ensures c.in-Some.ensures in
-    record { says = sym (cond-true _ _ _ a.test); after = list_set p _ _ _ _ a }
+    let a = located_at (list_shows p).grid _ _ _ _ refl c.in-Some.ensures in
+    record { says = sym (cond-true _ _ _ a.test); after = list_set p.cells.ghost_name _ _ _ p.room _ _ _ _ a }

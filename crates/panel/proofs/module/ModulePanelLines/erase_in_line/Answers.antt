@@ -1,4 +1,4 @@
-use Rattle.std.proofs.Common.{ap, arith}
+use Rattle.std.proofs.Common.{◌+◌, ◌/◌, ◌%◌, ◌<◌, sym, ap, subst, arith}
 use Rattle.panel.specs.Grids.{with_cells}
 use Rattle.panel.specs.Screens.{with_grid}
 use Rattle.panel.specs.Moduled.{module_shows, module_sound}
@@ -15,7 +15,7 @@ pub put-requires : goal.put-requires
 put-requires c =
     let s = module_shows c.args.self.now in
     let n = next s _ c.args.at c.args.count c.loop-i.i c.columns-columns.ensures c.requires (omega arith) in
-    rw c.loop-i.invariant (n.line_low, n.column_low)
+    subst (λ z. (c.args.at / c.columns-columns.result < z.grid.lines) × (c.args.at % c.columns-columns.result + c.loop-i.i < z.grid.columns)) (sym c.loop-i.invariant) (n.line_low, n.column_low)
 
 pub loop-i-preserved : goal.loop-i-preserved
 loop-i-preserved c =
