@@ -3,18 +3,15 @@ use Rattle.std.proofs.Common.{◌≡◌, ℕ, ◌+◌, ◌-◌, ◌*◌, ◌/◌
 use Rattle.std.proofs.lemmas.List.FromFn.{get_or-map-range_with_len}
 use Rattle.std.proofs.lemmas.List.{take-append-drop, ext_get_or, length-take-le, length-replicate, get_or-take, get_or-replicate}
 use Rattle.std.proofs.lemmas.Bool.{cases_lt}
-use Rattle.panel.specs.declared.cell.Cell.{Cell}
-use Rattle.panel.specs.declared.list.ListPanel.{ListPanel}
 use Rattle.panel.specs.declared.module.ModulePanel.{ModulePanel}
 use Rattle.panel.specs.Grids.{erased}
 use Rattle.panel.specs.Memories.{fitting, roomy, roomy_true}
-use Rattle.panel.specs.Clears.{clear_on, cells_cleared, bytes_cleared}
+use Rattle.panel.specs.Clears.{clear_on, bytes_cleared}
 use Rattle.panel.specs.Screens.{Screen, Beyond, nothing, cells_past, bytes_past, around, lent}
-use Rattle.panel.specs.Listed.{listed_if, listed, list_shows}
 use Rattle.panel.specs.Moduled.{stored_at, gathered, module_cells, moduled_if, moduled, module_shows}
 use Rattle.panel.proofs.Moduled.{stored_onto}
 
--- the loan by which a panel has its memory, and the cells or bytes past its own
+-- the loan by which a panel has its memory, and the bytes past its own
 abbrev pub loan_of : Beyond → ℕ
 loan_of nothing = 0
 loan_of (cells_past loan xs) = loan
@@ -22,40 +19,6 @@ loan_of (bytes_past loan xs) = loan
 loan_of (around top left g b) = loan_of b
 loan_of (lent loan b) = loan
 
-abbrev pub cells_of : Beyond → List Cell
-cells_of nothing = []
-cells_of (cells_past loan xs) = xs
-cells_of (bytes_past loan xs) = []
-cells_of (around top left g b) = []
-cells_of (lent loan b) = []
-
--- the memory of a list panel: its cells, and those past them
-abbrev pub memory_of : Screen → List Cell
-memory_of s = s.grid.cells ++ cells_of s.beyond
-
-listed_memory : (b : Bool) (loan l c : ℕ) (xs : List Cell) → (loan ≡ loan_of (listed_if b loan l c xs).beyond) × (xs ≡ memory_of (listed_if b loan l c xs))
-listed_memory true loan l c xs = (refl, sym (take-append-drop (l * c) xs))
-listed_memory false loan l c xs = (refl, refl)
-
--- what is shown tells the memory
-pub list_memory : (p : ListPanel) (s : Screen) → list_shows p ≡ s → (p.cells.ghost_name ≡ loan_of s.beyond) × (p.cells.now ≡ memory_of s)
-list_memory p s e =
-    let m = listed_memory (roomy p.size (length p.cells.now)) p.cells.ghost_name p.size.lines p.size.columns p.cells.now in
-    (m.0 ∙ ap (λ z. loan_of z.beyond) e, m.1 ∙ ap memory_of e)
-
--- after all cells of a panel made on lent memory are erased
-cleared_if : (b : Bool) (loan l c : ℕ) (xs : List Cell) →
-    (loan_of (clear_on (listed_if b loan l c xs)).beyond ≡ loan) × (memory_of (clear_on (listed_if b loan l c xs)) ≡ cond b (replicate (l * c) erased ++ drop (l * c) xs) xs)
-cleared_if true loan l c xs = (refl, refl)
-cleared_if false loan l c xs = (refl, refl)
-
-pub list_cleared : (p : ListPanel) (loan l c : ℕ) (xs : List Cell) → list_shows p ≡ clear_on (listed loan l c xs) → (p.cells.ghost_name ≡ loan) × (p.cells.now ≡ cells_cleared l c xs)
-list_cleared p loan l c xs e =
-    let m = list_memory p _ e in
-    let d = cleared_if (fitting l c (length xs)) loan l c xs in
-    (m.0 ∙ d.0, m.1 ∙ d.1)
-
--- the bytes past those of a module panel
 abbrev pub bytes_of : Beyond → List ℕ
 bytes_of nothing = []
 bytes_of (cells_past loan xs) = []

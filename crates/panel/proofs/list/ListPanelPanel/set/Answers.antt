@@ -1,5 +1,3 @@
-use Rattle.std.proofs.Common.{sym}
-use Rattle.std.proofs.lemmas.Bool.{cond-true}
 use Rattle.panel.specs.Listed.{list_shows}
 use Rattle.panel.proofs.Places.{located_at}
 use Rattle.panel.proofs.Listed.{list_index, list_set}
@@ -10,8 +8,8 @@ bounds-self-k c =
     let p = c.args.self.now in
     list_index p _ _ _ (located_at (list_shows p).grid _ _ _ _ c.size.ensures c.in-Some.ensures)
 
-pub returns : goal.returns
-returns c =
+pub returns-clause-after : goal.returns-clause-after
+returns-clause-after c =
     let p = c.args.self.now in
     let a = located_at (list_shows p).grid _ _ _ _ c.size.ensures c.in-Some.ensures in
-    record { says = sym (cond-true _ _ _ a.test); after = list_set p _ _ _ _ a }
+    list_set p _ _ _ _ a
