@@ -1,10 +1,10 @@
 -- Cells of a line copied below a window.
-use Rattle.std.proofs.Common.{◌≡◌, ℕ, ◌+◌, ◌-◌, ◌*◌, ◌%◌, ◌^◌, ◌<◌, ◌≤◌, true, false, ◌&&◌, ltb, leb, get_or, Some, None, sym, refl, ap, ◌∙◌, ⊎_elim, arith}
+use Rattle.std.proofs.Common.{◌≡◌, ℕ, ◌+◌, ◌-◌, ◌*◌, ◌%◌, ◌^◌, ◌<◌, ◌≤◌, true, false, ◌&&◌, ltb, leb, get_or, Some, sym, refl, ap, ◌∙◌, ⊎_elim, arith}
 use Rattle.std.proofs.lemmas.Nat.{mod-mul-add, mul-le}
-use Rattle.std.proofs.lemmas.Bool.{and_from, and_left, and_right, and_parts, le-leb, lt-ltb, leb-true, ltb-true, cond-true, cond-false, cases_Bool, both_ways}
+use Rattle.std.proofs.lemmas.Bool.{and_from, and_parts, le-leb, lt-ltb, leb-true, ltb-true, cond-true, cond-false, cases_Bool, both_ways}
 use Rattle.panel.specs.declared.cell.Position.{Position}
 use Rattle.panel.specs.declared.rectangle.Rectangle.{Rectangle}
-use Rattle.panel.specs.Grids.{Grid, erased, within, index_in, index, outside, with_cells}
+use Rattle.panel.specs.Grids.{Grid, erased, within, index_in, index, with_cells}
 use Rattle.panel.specs.Screens.{Screen, Sound, around, with_grid}
 use Rattle.panel.specs.Rectangles.{Fit, framed, covers}
 use Rattle.panel.specs.Copies.{part_within, part_on, in_run, copy_of, copied, copy_answer, copy_on}
@@ -12,7 +12,7 @@ use Rattle.panel.specs.Windows.{under, part_beneath, windowed, through, seen, ma
 use Rattle.panel.proofs.Places.{Within, within_true, true_within, index_lt}
 use Rattle.panel.proofs.Seen.{OneToOne, get_or_seen, length_seen}
 use Rattle.panel.proofs.Replaced.{get_or_replaced, replaced_out, is_replaced, replaced_same}
-use Rattle.panel.proofs.Windowed.{found_if, lost_if}
+use Rattle.panel.proofs.Windowed.{found_if}
 use Rattle.panel.proofs.Framed.{framed_fit, under_at, within_below, under_inj, under_lt, under_run, covers_under}
 
 -- an index in a run
@@ -175,13 +175,6 @@ pub record Small (a d : ℕ) : Type 0 where
   pub line : a < 2 ^ 16
   pub column : d < 2 ^ 16
 
-pub part_small : (s : Screen) (h : Sound s) (r f : Rectangle) → f ≡ framed s.grid.lines s.grid.columns r → (at : Position) (n : ℕ) → part_within f.lines f.columns at n ≡ true →
-    Small (f.top + (at.line - 1)) (f.left + (at.column - 1))
-part_small s h r f e at n t =
-    let fit : Fit s.grid.lines s.grid.columns f = rw e (framed_fit s.grid.lines s.grid.columns r) in
-    let w = within_below s.grid.lines s.grid.columns f fit at.line at.column (inside s f fit at n t) in
-    record { line = omega (arith, w.line_high, h.tall); column = omega (arith, w.column_high, h.wide) }
-
 -- a window after a copy below
 module _ (s : Screen) (h : Sound s) (r : Rectangle) (from to : Position) (n : ℕ) where
   abbrev shown : Rectangle
@@ -194,25 +187,8 @@ module _ (s : Screen) (h : Sound s) (r : Rectangle) (from to : Position) (n : �
   abbrev begun : Position → Position
   begun at = record { line = shown.top + (at.line - 1); column = shown.left + (at.column - 1) }
 
-  lost : (at : Position) → None ≡ part_beneath shown at n → part_within shown.lines shown.columns at n ≡ false
-  lost at e = lost_if (part_within shown.lines shown.columns at n) (begun at) e
-
   found : (at a : Position) → Some a ≡ part_beneath shown at n → (part_within shown.lines shown.columns at n ≡ true) × (a ≡ begun at)
   found at a e = found_if (part_within shown.lines shown.columns at n) a (begun at) e
-
-  -- the cells are not all in the window
-  pub from_lost_says : None ≡ part_beneath shown from n → outside from.line from.column ≡ copy_answer (windowed s r).grid from to n
-  from_lost_says e = sym (cond-false _ _ _ (lost from e))
-
-  pub from_lost_after : None ≡ part_beneath shown from n → windowed s r ≡ copy_on (windowed s r) from to n
-  from_lost_after e = ap (with_grid (windowed s r)) (sym (cond-false _ _ _ (and_left _ _ (lost from e))))
-
-  -- nor are their new places
-  pub to_lost_says : (a : Position) → Some a ≡ part_beneath shown from n → None ≡ part_beneath shown to n → outside to.line to.column ≡ copy_answer (windowed s r).grid from to n
-  to_lost_says a i e = sym (cond-true _ _ _ (found from a i).0 ∙ cond-false _ _ _ (lost to e))
-
-  pub to_lost_after : None ≡ part_beneath shown to n → windowed s r ≡ copy_on (windowed s r) from to n
-  to_lost_after e = ap (with_grid (windowed s r)) (sym (cond-false _ _ _ (and_right _ _ (lost to e))))
 
   -- all are
   module _ (a d : Position) (i : Some a ≡ part_beneath shown from n) (o : Some d ≡ part_beneath shown to n) where

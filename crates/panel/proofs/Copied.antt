@@ -8,9 +8,9 @@ use Rattle.panel.specs.declared.cell.Cell.{Cell}
 use Rattle.panel.specs.declared.cell.Position.{Position}
 use Rattle.panel.specs.declared.size.Size.{Size}
 use Rattle.panel.specs.Grids.{Grid, erased, size_of, on, index, cell_at, cell_answer, replaced}
-use Rattle.panel.specs.Screens.{Screen, Sound, with_grid, set_on, put_on, erase_on, wipe_on}
+use Rattle.panel.specs.Screens.{Screen, Sound, with_grid, set_on, put_on}
 use Rattle.panel.specs.Shifts.{Part}
-use Rattle.panel.specs.Copies.{part_within, part_on, in_run, copy_of, copied, copy_on}
+use Rattle.panel.specs.Copies.{part_within, in_run, copy_of}
 use Rattle.panel.proofs.Places.{within_true, true_within}
 use Rattle.panel.proofs.Replaced.{replaced_set, replaced_out, is_replaced}
 
@@ -20,12 +20,6 @@ true_part g z at count e t =
     let p = and_parts (on g at.line at.column) (leb (at.column + count) (g.columns + 1)) (sym (t ∙ ap (λ y. part_within y.lines y.columns at count) e)) in
     let w = within_true g.lines g.columns at.line at.column p.0 in
     record { line_low = w.line_low; line_high = w.line_high; column_low = w.column_low; column_end = leb-true _ _ p.1 }
-
-pub part_true : (g : Grid) (at : Position) (count : ℕ) → Part g at.line at.column count → 1 ≤ count → part_on g at count ≡ true
-part_true g at count p some =
-    and_from _ _
-    (true_within g.lines g.columns at.line at.column (record { line_low = p.line_low; line_high = p.line_high; column_low = p.column_low; column_high = omega (arith, p.column_end) }))
-    (le-leb _ _ p.column_end)
 
 -- each cell of a part of a line is on the grid
 pub part_cell : (g : Grid) (line column count i : ℕ) → Part g line column count → i < count → on g line (column + i) ≡ true
@@ -43,11 +37,6 @@ part_end g line column count p =
     let e : ((line - 1) + 1) * g.columns ≤ g.lines * g.columns = mul-le ((line - 1) + 1) g.columns g.lines g.columns (omega arith) (omega arith) in
     omega arith
 
-pub part_run : (s : Screen) (line column count : ℕ) → Part s.grid line column count → 1 ≤ count → erase_on s line column count ≡ wipe_on s (index s.grid line column) count
-part_run s line column count p some =
-    let t : on s.grid line column ≡ true = true_within s.grid.lines s.grid.columns line column (record { line_low = p.line_low; line_high = p.line_high; column_low = p.column_low; column_high = omega (arith, p.column_end) }) in
-    ap (with_grid s) (cond-true _ _ _ (and_from _ _ t (le-leb _ _ (part_end s.grid line column count p))))
-
 -- parts of two lines are apart
 pub lines_apart : (g : Grid) (al ac bl bc n : ℕ) → Part g al ac n → 1 ≤ bl → al < bl → index g al ac + n ≤ index g bl bc
 lines_apart g al ac bl bc n p low l =
@@ -56,11 +45,6 @@ lines_apart g al ac bl bc n p low l =
     let d = p.column_end in
     let e : ((al - 1) + 1) * g.columns ≤ (bl - 1) * g.columns = mul-le ((al - 1) + 1) g.columns (bl - 1) g.columns (omega arith) (omega arith) in
     omega arith
-
--- a copy of parts of lines that are on the grid
-pub part_copied : (s : Screen) (from to : Position) (count : ℕ) → Part s.grid from.line from.column count → Part s.grid to.line to.column count → 1 ≤ count →
-    copy_on s from to count ≡ with_grid s (copied (index s.grid from.line from.column) (index s.grid to.line to.column) count s.grid)
-part_copied s from to count p q some = ap (with_grid s) (cond-true _ _ _ (and_from _ _ (part_true s.grid from count p some) (part_true s.grid to count q some)))
 
 -- the cell that was read is put where it is set
 value : Answer Cell → Cell

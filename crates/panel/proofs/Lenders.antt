@@ -37,18 +37,6 @@ memory_of s = s.grid.cells ++ cells_of s.beyond
 pub list_memory : (p : ListPanel) (s : Screen) → list_shows p ≡ s → (p.cells.ghost_name ≡ loan_of s.beyond) × (p.cells.now ≡ memory_of s)
 list_memory p s e = (ap (λ z. loan_of z.beyond) e, sym (take-append-drop (p.size.lines * p.size.columns) p.cells.now) ∙ ap memory_of e)
 
--- after all cells of a panel made on lent memory are erased
-cleared_if : (b : Bool) (loan l c : ℕ) (xs : List Cell) →
-    (loan_of (clear_on (listed_if b loan l c xs)).beyond ≡ loan) × (memory_of (clear_on (listed_if b loan l c xs)) ≡ cond b (replicate (l * c) erased ++ drop (l * c) xs) xs)
-cleared_if true loan l c xs = (refl, refl)
-cleared_if false loan l c xs = (refl, refl)
-
-pub list_cleared : (p : ListPanel) (loan l c : ℕ) (xs : List Cell) → list_shows p ≡ clear_on (listed loan l c xs) → (p.cells.ghost_name ≡ loan) × (p.cells.now ≡ cells_cleared l c xs)
-list_cleared p loan l c xs e =
-    let m = list_memory p _ e in
-    let d = cleared_if (fitting l c (length xs)) loan l c xs in
-    (m.0 ∙ d.0, m.1 ∙ d.1)
-
 -- the bytes past those of a module panel
 abbrev pub bytes_of : Beyond → List ℕ
 bytes_of nothing = []

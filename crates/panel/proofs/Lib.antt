@@ -11,6 +11,5 @@ pub mod Windowed
 pub mod Carried
 pub mod Copied
 pub mod Shifted
-pub mod Cleared
 pub mod Lenders
 pub mod Beneath

@@ -45,9 +45,6 @@ stored_inj l c k j hk hj e =
     sym (div-add-mod' k c) ∙ ap (λ z. z * c + k % c) q ∙ ap (λ z. j / c * c + z) m ∙ div-add-mod' j c
 
 module _ (n : ℕ) (mem : List ℕ) (j : ℕ) (x : Cell) (room : 3 * n ≤ length mem) (low : j < n) where
-  length_scattered : length (scattered n mem j x) ≡ length mem
-  length_scattered = length-set _ _ _ ∙ length-set _ _ _ ∙ length-set _ _ _
-
   drop_scattered : drop (3 * n) (scattered n mem j x) ≡ drop (3 * n) mem
   drop_scattered = drop-set-lt (3 * n) _ (2 * n + j) _ (omega arith) ∙ drop-set-lt (3 * n) _ (n + j) _ (omega arith) ∙ drop-set-lt (3 * n) mem j _ (omega arith)
 

@@ -1,11 +1,10 @@
 -- Lines and columns, and the index of each in reading order.
-use Rattle.std.proofs.Common.{◌≡◌, ℕ, zero, suc, ◌+◌, ◌-◌, ◌*◌, ◌<◌, ◌≤◌, Bool, true, false, cond, ◌&&◌, leb, Some, None, Option, Ok, Err, Result, sym, refl, ap, ◌∙◌, mul-zero, arith}
+use Rattle.std.proofs.Common.{◌≡◌, ℕ, zero, suc, ◌+◌, ◌-◌, ◌*◌, ◌<◌, ◌≤◌, Bool, true, false, cond, ◌&&◌, leb, Some, None, Option, Ok, Result, sym, refl, ap, ◌∙◌, mul-zero, arith}
 use Rattle.std.proofs.lemmas.Nat.{mul-add-lt}
 use Rattle.std.proofs.lemmas.Bool.{and_parts, leb-true, le-leb, and_from}
 use Rattle.std.proofs.lemmas.Bool.Decides.{nat_tests}
 use Rattle.std.specs.Bool.{then_some}
-use Rattle.std.specs.Option.{ok_or}
-use Rattle.std.specs.Result.{result_ok, IsErrAnd}
+use Rattle.std.specs.Result.{result_ok}
 use Rattle.panel.specs.declared.size.Size.{Size}
 use Rattle.panel.specs.Grids.{Grid, size_of, within, index_in, index, on, run_on}
 use Rattle.panel.specs.Places.{located, run_located}
@@ -90,11 +89,3 @@ run_found z line column count k e =
 -- what was looked for where a call goes on after `?`, and where it stops
 pub goes_on : {A E : Type 0} (o : Option A) (r : Result A E) (k : A) → r ≡ Ok k → o ≡ result_ok r → Some k ≡ o
 goes_on o r k was part = sym (part ∙ ap result_ok was)
-
-pub stops : {A E : Type 0} (o : Option A) (r : Result A E) (e : E) → r ≡ Err e → o ≡ result_ok r → None ≡ o
-stops o r e was part = sym (part ∙ ap result_ok was)
-
-pub stopped_with : {A B E : Type 0} (o : Option B) (q : Result B E) (e d : E) (r : Result A E) → q ≡ Err e → q ≡ ok_or o d → IsErrAnd r (λ x. x ≡ e) → r ≡ Err d
-stopped_with None q e d (Ok x) was is h = absurd h
-stopped_with None q e d (Err x) was is h = let p : Err e ≡ Err d = sym was ∙ is in cc
-stopped_with (Some y) q e d r was is h = let p : Err e ≡ Ok y = sym was ∙ is in cc

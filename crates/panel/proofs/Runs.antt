@@ -6,7 +6,7 @@ use Rattle.std.specs.Int.{div_ceil}
 use Rattle.panel.specs.Grids.{with_cells, InLine}
 use Rattle.panel.specs.Screens.{Screen, Sound, with_grid, wipe_on}
 use Rattle.panel.proofs.Places.{columns_some}
-use Rattle.panel.proofs.Wiped.{wiped_wiped, wiped_none}
+use Rattle.panel.proofs.Wiped.{wiped_wiped}
 
 -- where a run stands that is erased up to a line, counted from 0
 abbrev pub up_to : (columns at count line : ℕ) → ℕ
@@ -34,12 +34,6 @@ module _ (s : Screen) (h : Sound s) (at count : ℕ) (some : 0 < count) (low : a
       let wide = h.wide in
       let all : s.grid.lines * s.grid.columns ≤ 65535 * 65535 = mul-le s.grid.lines s.grid.columns 65535 65535 (omega arith) (omega arith) in
       record { low = p; start = omega arith; end_past = omega arith; next = omega arith }
-
-  pub turn_first : s ≡ wipe_on s at (up_to columns at count (at / columns) - at)
-  turn_first =
-      let p = columns_low in
-      let z : up_to columns at count (at / columns) - at ≡ 0 = omega arith in
-      ap (λ ys. with_grid s (with_cells s.grid ys)) (wiped_none s.grid.cells at) ∙ ap (wipe_on s at) (sym z)
 
   pub turn_last : (line dc : ℕ) → dc ≡ div_ceil (at + count) columns → dc ≤ line → up_to columns at count line - at ≡ count
   turn_last line dc i l =

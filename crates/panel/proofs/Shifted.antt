@@ -1,6 +1,6 @@
 -- A rectangle shifted line by line.
 use Rattle.std.proofs.Common.{◌≡◌, ℕ, ◌+◌, ◌-◌, ◌*◌, ◌/◌, ◌%◌, ◌<◌, ◌≤◌, Bool, true, false, cond, ◌&&◌, eqb, ltb, leb, ◌⊎◌, List, length, get_or, sym, refl, ap, ◌∙◌, inl, inr, ⊎_elim, arith}
-use Rattle.std.proofs.lemmas.Nat.{mul-le, div-mul-add, mod-mul-add, div-add-mod'}
+use Rattle.std.proofs.lemmas.Nat.{div-mul-add, mod-mul-add, div-add-mod'}
 use Rattle.std.proofs.lemmas.Bool.{and_from, and_parts, and_left, and_right, le-leb, lt-leb, lt-ltb, le-ltb, leb-true, leb-false, ltb-true, ltb-false, eqb-true, eq-eqb, ne_eqb, cond-true, cond-false, cases_Bool, cases_lt, cases_eq, both_ways, true≢false, false≢true}
 use Rattle.std.proofs.lemmas.Bool.Decides.{nat_tests}
 use Rattle.panel.specs.declared.cell.Cell.{Cell}
@@ -44,10 +44,6 @@ in_true r l c e =
     let b = and_parts _ _ a.0 in
     let d = and_parts _ _ a.1 in
     record { top = leb-true _ _ b.0; bottom = ltb-true _ _ b.1; left = leb-true _ _ d.0; right = ltb-true _ _ d.1 }
-
--- a lower line has the greater index
-pub index_below : (g : Grid) (a b c : ℕ) → a ≤ b → index g a c ≤ index g b c
-index_below g a b c p = omega (arith, mul-le (a - 1) g.columns (b - 1) g.columns (omega arith) (omega arith))
 
 -- the cells of a line of a rectangle
 pub rectangle_part : (g : Grid) (r : Rectangle) (line : ℕ) → Fit g.lines g.columns r → r.top ≤ line → line < r.top + r.lines → Part g line r.left r.columns

@@ -5,7 +5,7 @@ use Rattle.refusal.specs.Table.{accepted}
 use Rattle.panel.specs.declared.cell.Cell.{Cell}
 use Rattle.panel.specs.declared.cell.Position.{Position}
 use Rattle.panel.specs.declared.rectangle.Rectangle.{Rectangle}
-use Rattle.panel.specs.Grids.{Grid, erased, within, index_in, index, on, run_on, cell_answer, done_if, with_cells, wiped}
+use Rattle.panel.specs.Grids.{Grid, erased, within, index_in, index, on, run_on, cell_answer, with_cells, wiped}
 use Rattle.panel.specs.Screens.{Screen, Sound, around, with_grid, set_on, erase_on, put_on, wipe_on}
 use Rattle.panel.specs.Rectangles.{Fit, framed, covers}
 use Rattle.panel.specs.Copies.{part_within}
@@ -28,10 +28,6 @@ found_if true a d e = (refl, ap (or_else a) e)
     or_else z None = z
     or_else z (Some x) = x
 found_if false a d e = absurd (true≢false (ap is_some e))
-
-pub lost_if : (b : Bool) (d : Position) → None ≡ cond b (Some d) None → b ≡ false
-lost_if true d e = absurd (true≢false (ap is_some (sym e)))
-lost_if false d e = refl
 
 beneath_some : (f : Rectangle) (at p : Position) → Some p ≡ part_beneath f at 1 → Beneath f at.line at.column p.line p.column
 beneath_some f at p e =
@@ -67,9 +63,6 @@ module _ (s : Screen) (h : Sound s) (f : Rectangle) (fit : Fit s.grid.lines s.gr
       ∙ ap accepted (ap (λ z. get_or s.grid.cells z erased) below_is ∙ sym (get_or_seen (under s.grid.columns f) (f.lines * f.columns) s.grid.cells k in_window))
       ∙ sym (cond-true _ _ _ b.test)
 
-  pub through_done : done_if (on s.grid l c) l c ≡ done_if (on (through f s).grid line column) line column
-  through_done = cond-true _ _ _ below_on ∙ sym (cond-true _ _ _ b.test)
-
   pub through_set : (x : Cell) → through f (put_on s (index s.grid l c) x) ≡ put_on (through f s) k x
   through_set x =
       let u = under s.grid.columns f in
@@ -97,9 +90,6 @@ module _ (s : Screen) (h : Sound s) (f : Rectangle) (at p : Position) (e : Some 
 
   pub windowed_cell : cell_answer s.grid p.line p.column ≡ cell_answer (windowed s f).grid at.line at.column
   windowed_cell = through_cell s h F fit at.line at.column p.line p.column b
-
-  pub windowed_done : done_if (on s.grid p.line p.column) p.line p.column ≡ done_if (on (windowed s f).grid at.line at.column) at.line at.column
-  windowed_done = through_done s h F fit at.line at.column p.line p.column b
 
   pub windowed_set : (x : Cell) → windowed (set_on s p.line p.column x) f ≡ set_on (windowed s f) at.line at.column x
   windowed_set x =

@@ -1,7 +1,7 @@
 -- A run of cells erased.
-use Rattle.std.proofs.Common.{◌≡◌, ℕ, ◌+◌, ◌<◌, ◌≤◌, ◌⊎◌, List, ◌++◌, length, get_or, take, drop, set, sym, ap, ◌∙◌, inl, inr, ⊎_elim, arith, rules}
+use Rattle.std.proofs.Common.{◌≡◌, ℕ, ◌+◌, ◌<◌, ◌≤◌, ◌⊎◌, List, length, get_or, take, drop, set, sym, ap, ◌∙◌, inl, inr, ⊎_elim, arith, rules}
 use Rattle.std.proofs.lemmas.Bool.{cases_lt, cases_eq}
-use Rattle.std.proofs.lemmas.List.{same_lists, places, length-set, length-take, length-drop, length-append, length-replicate, take-append-drop, ext_get_or, get_or-set_same, get_or-set_other}
+use Rattle.std.proofs.lemmas.List.{same_lists, places, length-set, length-take, length-drop, length-append, length-replicate, ext_get_or, get_or-set_same, get_or-set_other}
 use Rattle.panel.specs.declared.cell.Cell.{Cell}
 use Rattle.panel.specs.Grids.{wiped, erased}
 
@@ -33,9 +33,6 @@ get_or_wiped_out xs i n k h out =
 
 pub wiped_wiped : (xs : List Cell) (i m n : ℕ) → (i + m) + n ≤ length xs → wiped (wiped xs i m) (i + m) n ≡ wiped xs i (m + n)
 wiped_wiped xs i m n h = same_lists _ _ (search (rules, places)) (λ k d l. grind (arith, places))
-
-pub wiped_none : (xs : List Cell) (i : ℕ) → xs ≡ wiped xs i 0
-wiped_none xs i = let z : i + 0 ≡ i = omega arith in sym (take-append-drop i xs) ∙ ap (λ k. take i xs ++ drop k xs) (sym z)
 
 pub wiped_more : (xs : List Cell) (i t : ℕ) → i + t < length xs → set (wiped xs i t) (i + t) erased ≡ wiped xs i (t + 1)
 wiped_more xs i t h =

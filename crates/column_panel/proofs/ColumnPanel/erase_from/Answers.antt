@@ -1,14 +1,9 @@
 use Rattle.std.proofs.Common.{◌+◌, ap, ◌∙◌, arith}
 use Rattle.panel.specs.Grids.{erased, with_cells}
 use Rattle.panel.specs.Screens.{with_grid, put_on}
-use Rattle.panel.proofs.Wiped.{wiped_none, wiped_more}
+use Rattle.panel.proofs.Wiped.{wiped_more}
 use Rattle.column_panel.specs.Columned.{column_shows, column_sound}
 use Rattle.column_panel.proofs.ColumnPanel.erase_from.Goals as goal
-
-pub loop-i-init : goal.loop-i-init
-loop-i-init c =
-    let s = column_shows c.args.self.now in
-    ap (λ ys. with_grid s (with_cells s.grid ys)) (wiped_none s.grid.cells c.args.k)
 
 pub loop-i-preserved : goal.loop-i-preserved
 loop-i-preserved c =

@@ -1,8 +1,7 @@
 use Rattle.column_panel.proofs.Columned.{columned_room}
 use Rattle.column_panel.proofs.ColumnPanel.stored.Goals as goal
 
-pub returns : goal.returns
-returns c =
+pub returns-clause-low : goal.returns-clause-low
+returns-clause-low c =
     let p = c.args.self.now in
-    let r = columned_room p.cells.ghost_name p.size.lines p.size.columns p.cells.now c.args.k c.requires in
-    record { is = r.0; low = r.1 }
+    (columned_room p.cells.ghost_name p.size.lines p.size.columns p.cells.now c.args.k c.requires).1

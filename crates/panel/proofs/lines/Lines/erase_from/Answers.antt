@@ -1,11 +1,7 @@
 use Rattle.std.proofs.Common.{◌<◌, ap, ◌∙◌, arith}
 use Rattle.panel.specs.Screens.{wipe_on}
-use Rattle.panel.proofs.Runs.{turn, turn_first, turn_last, turn_some, turn_in_line, turn_next}
+use Rattle.panel.proofs.Runs.{turn, turn_last, turn_some, turn_in_line, turn_next}
 use Rattle.panel.proofs.lines.Lines.erase_from.Goals as goal
-
-pub loop-line-init : goal.loop-line-init
-loop-line-init g c =
-    turn_first (g.Self.Lines.seen c.args.self.now) (g.Self.Lines.seen_sound c.args.self.now) c.args.at c.args.count (omega arith) c.requires _ c.columns-columns.ensures
 
 pub overflow_mul-line : goal.overflow_mul-line
 overflow_mul-line g c =

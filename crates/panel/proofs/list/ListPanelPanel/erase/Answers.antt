@@ -8,14 +8,8 @@ use Rattle.panel.proofs.Places.{located_run, goes_on}
 use Rattle.panel.proofs.Listed.{list_room, list_wiped}
 use Rattle.panel.proofs.list.ListPanelPanel.erase.Goals as goal
 
-pub slice_bounds-fill-end : goal.slice_bounds-fill-end
-slice_bounds-fill-end c =
-    let p = c.args.self.now in
-    let room : c.in_ok-k.k + c.args.count ≤ length p.cells.now = list_room p.cells.ghost_name _ _ _ p.room _ _ _ _ (located_run (list_shows p).grid _ _ _ _ _ refl (goes_on _ _ _ c.in_ok-k.was c.ok_or.ensures.ok_part ∙ c.find_run.ensures)) in
-    search rules
-
-pub returns : goal.returns
-returns c =
+pub returns-clause-after : goal.returns-clause-after
+returns-clause-after c =
     let p = c.args.self.now in
     let a = located_run (list_shows p).grid _ _ _ _ _ refl (goes_on _ _ _ c.in_ok-k.was c.ok_or.ensures.ok_part ∙ c.find_run.ensures) in
     let xs = p.cells.now in
@@ -27,4 +21,4 @@ returns c =
     let f : c.fill.new.self ≡ replicate n erased = c.fill.ensures.after (λ y e. e) ∙ ap (λ z. replicate z erased) m in
     let w : put_mid i ((i + n) - i) xs c.fill.new.self ≡ wiped xs i n =
     ap (λ ys. put_mid i ((i + n) - i) xs ys) f ∙ ap (λ z. put_mid i z xs (replicate n erased)) k ∙ ap (λ ys. take i xs ++ (replicate n erased ++ ys)) (drop-drop n i xs) in
-    record { says = sym (cond-true _ _ _ a.test); after = ap (laid_out p.cells.ghost_name p.size.lines p.size.columns) w ∙ list_wiped p.cells.ghost_name _ _ _ p.room _ _ _ _ a }
+    ap (laid_out p.cells.ghost_name p.size.lines p.size.columns) w ∙ list_wiped p.cells.ghost_name _ _ _ p.room _ _ _ _ a

@@ -1,5 +1,4 @@
-use Rattle.std.proofs.Common.{sym, refl}
-use Rattle.std.proofs.lemmas.Bool.{cond-true}
+use Rattle.std.proofs.Common.{refl}
 use Rattle.panel.specs.Listed.{list_shows}
 use Rattle.panel.proofs.Places.{located_at}
 use Rattle.panel.proofs.Listed.{list_index, list_set}
@@ -10,8 +9,7 @@ bounds-self-k c =
     let p = c.args.self.now in
     list_index p.cells.ghost_name _ _ _ p.room _ _ _ (located_at (list_shows p).grid _ _ _ _ refl c.in-Some.ensures)
 
-pub returns : goal.returns
-returns c =
+pub returns-clause-after : goal.returns-clause-after
+returns-clause-after c =
     let p = c.args.self.now in
-    let a = located_at (list_shows p).grid _ _ _ _ refl c.in-Some.ensures in
-    record { says = sym (cond-true _ _ _ a.test); after = list_set p.cells.ghost_name _ _ _ p.room _ _ _ _ a }
+    list_set p.cells.ghost_name _ _ _ p.room _ _ _ _ (located_at (list_shows p).grid _ _ _ _ refl c.in-Some.ensures)

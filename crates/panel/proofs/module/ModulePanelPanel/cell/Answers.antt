@@ -4,11 +4,6 @@ use Rattle.panel.specs.Moduled.{gathered, module_shows}
 use Rattle.panel.proofs.Moduled.{module_cell, module_room, counted_low}
 use Rattle.panel.proofs.module.ModulePanelPanel.cell.Goals as goal
 
-pub stored-k-requires : goal.stored-k-requires
-stored-k-requires c =
-    let low = counted_low (module_shows c.args.self.now).grid _ _ _ refl c.if-has.ensures in
-    (low.line_low, low.column_low)
-
 pub gather-requires : goal.gather-requires
 gather-requires c =
     let p = c.args.self.now in
