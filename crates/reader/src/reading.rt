@@ -192,13 +192,14 @@ fn completed(function: Function) -> Completed
 fn finished(parameters: Option<Parameters>, space: bool, final_byte: u8) -> Completed
     ensures { functions_of result ≡ (sequence_final (parameters_in parameters) space final_byte).performs }
 {
-    match parameters {
-        Some(parameters) => completed(Function::Sequence(Sequence {
-            parameters,
-            space,
-            final_byte,
-        })),
-        None => NOTHING,
+    Completed {
+        function: parameters.map(|parameters| {
+            Function::Sequence(Sequence {
+                parameters,
+                space,
+                final_byte,
+            })
+        }),
     }
 }
 
