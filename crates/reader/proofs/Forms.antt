@@ -1,10 +1,10 @@
 -- Runs of a class, and the forms of items that are made of them.
 use Rattle.std.proofs.Common.{◌≡◌, ℕ, suc, cond, ◌+◌, ◌-◌, ◌<◌, Bool, true, false, eqb, List, [], ◌∷◌, ◌++◌, length, get_or, take, drop, sym, refl, ap, ◌∙◌, subst, inl, inr, append_assoc, append-nil, not-suc-le-zero, arith, take_all}
-use Rattle.std.proofs.lemmas.Bool.{eq-eqb, or_left, or_right, and_from, or_parts, both_ways}
+use Rattle.std.proofs.lemmas.Bool.{eq-eqb, or_left, or_right, and_from, or_parts}
 use Rattle.std.proofs.lemmas.Bool.Decides.{nat_tests}
 use Rattle.std.specs.List.{prefix_len}
 use Rattle.reader.specs.declared.item.Kind.{Kind}
-use Rattle.reader.specs.declared.item.Kind.TheVariants.{Text, Control, Escape, Sequence, String, Broken, Rest}
+use Rattle.reader.specs.declared.item.Kind.TheVariants.{Control, Escape, Sequence, String, Broken, Rest}
 use Rattle.reader.specs.Bytes.{is_graphic, is_opener, is_body, is_intermediate, is_parameter, ends_escape, ends_sequence, AllOf, Stops}
 use Rattle.reader.specs.Items as item
 use Rattle.reader.specs.Items.{Spells, begins, Free, is_lone, Form}
@@ -148,9 +148,6 @@ clear_more (y ∷ x) b t h p q =
 abbrev pub Sofar : List ℕ → List ℕ → Type 0
 Sofar l t = (x : List ℕ) × (x ++ t ≡ l) × Clear x t
 
-pub sofar_none : (l : List ℕ) → Sofar l l
-sofar_none l = ([], refl, tt)
-
 pub sofar_more : (l t : List ℕ) (b : ℕ) (bs : List ℕ) → Sofar l t → b ∷ bs ≡ t → begins 0x9C t ≡ false → begins 0x98 t ≡ false → Sofar l bs
 sofar_more l t b bs s e p q =
     let at = λ (z : List ℕ). Clear s.0 z in
@@ -178,15 +175,6 @@ front_one t k h e = ap (λ (j : ℕ). j ∷ take (length t - 1) (drop 1 t)) (sym
 
 pub front_two : (t : List ℕ) (j k : ℕ) → 1 < length t → get_or t 0 0 ≡ j → get_or t 1 0 ≡ k → (j ∷ k ∷ []) ++ take (length t - 2) (drop 2 t) ≡ t
 front_two t j k h e f = (λ i. sym e i ∷ sym f i ∷ take (length t - 2) (drop 2 t)) ∙ pattern_two t h
-
--- a text is not empty, since its first byte is graphic
-pub text_leads : (l x t : List ℕ) → x ++ t ≡ l → AllOf is_graphic x → Stops is_graphic t → 0 < length l → is_graphic (get_or l 0 0) ≡ true → Leads Text l t
-text_leads l [] t e a s h g = absurd (first_stops t (subst (λ (z : List ℕ). 0 < length z) (sym e) h) s (ap (λ (z : List ℕ). is_graphic (get_or z 0 0)) e ∙ g))
-  where
-    first_stops : (t : List ℕ) → 0 < length t → Stops is_graphic t → is_graphic (get_or t 0 0) ≡ true → ⊥
-    first_stops [] h s g = absurd (not-suc-le-zero h)
-    first_stops (b ∷ bs) h s g = both_ways (is_graphic b) s g
-text_leads l (b ∷ x) t e a s h g = (b ∷ x, e, (omega arith, a, s))
 
 pub control_leads : (l : List ℕ) → 0 < length l → is_lone (get_or l 0 0) ≡ true → Leads Control l (take (length l - 1) (drop 1 l))
 control_leads l h g = (get_or l 0 0 ∷ [], pattern_one l h, (get_or l 0 0, refl, g))

@@ -1,9 +1,6 @@
 use Rattle.std.proofs.Common.{rules}
-use Rattle.reader.proofs.Forms.{pattern_one, sofar_none, sofar_more, sos_rest, sos_broken, sos_whole}
+use Rattle.reader.proofs.Forms.{pattern_one, sofar_more, sos_rest, sos_broken, sos_whole}
 use Rattle.reader.proofs.cutting.sos.Goals as goal
-
-pub loop-after-init : goal.loop-after-init
-loop-after-init c = sofar_none _
 
 pub returns-in-Some : goal.returns-in-Some
 returns-in-Some c =
