@@ -8,7 +8,7 @@ use Rattle.reader.specs.declared.item.Kind.TheVariants.{Control, Escape, Sequenc
 use Rattle.reader.specs.Bytes.{is_graphic, is_opener, is_body, is_intermediate, is_parameter, ends_escape, ends_sequence, AllOf, Stops}
 use Rattle.reader.specs.Items as item
 use Rattle.reader.specs.Items.{Spells, begins, Free, is_lone, Form}
-use Rattle.reader.specs.Walks.{Leaves, Leads, Opens, opens_more}
+use Rattle.reader.specs.Walks.{Leaves, Leads, Opens, ended, opens_more}
 
 -- the longest front of a class is all of that class
 pub front_all : (P : ℕ → Bool) (bs : List ℕ) → AllOf P (take (prefix_len P bs) bs)
@@ -77,6 +77,23 @@ module _ (l is t : List ℕ) (whole : is ++ t ≡ l) (i : AllOf is_intermediate 
 
   pub escape_broken : Stops is_intermediate t → (b : ℕ) (bs : List ℕ) → b ∷ bs ≡ t → ends_escape b ≡ false → Leaves (λ c. c ≡ 0x1B ∷ []) Broken l t
   escape_broken si b bs e f = (is, whole, λ c s. (item.escape is i (esc c is s), (b, bs, sym e, subst (Stops is_intermediate) (sym e) si, f)))
+
+-- which of these it is, is told by the byte at the end
+pub escape_ends : (l is t : List ℕ) → is ++ t ≡ l → AllOf is_intermediate is → Stops opens_more l → Stops is_intermediate t → Leaves (λ c. c ≡ 0x1B ∷ []) (ended ends_escape Escape t).0 l (ended ends_escape Escape t).1
+escape_ends l is [] w i lone si = escape_rest l is [] w i (omega arith)
+escape_ends l is (b ∷ bs) w i lone si = by (ends_escape b) refl
+  where
+    by : (t : Bool) → ends_escape b ≡ t → Leaves (λ c. c ≡ 0x1B ∷ []) (cond {A = Kind × List ℕ} t (Escape, bs) (Broken, b ∷ bs)).0 l (cond {A = Kind × List ℕ} t (Escape, bs) (Broken, b ∷ bs)).1
+    by true f = escape_whole l is (b ∷ bs) w i lone b bs refl f
+    by false f = escape_broken l is (b ∷ bs) w i si b bs refl f
+
+pub sequence_ends : (l ps m is t : List ℕ) → ps ++ m ≡ l → is ++ t ≡ m → AllOf is_parameter ps → AllOf is_intermediate is → Stops is_parameter m → Stops is_intermediate t → Leaves (Spells 0x9B) (ended ends_sequence Sequence t).0 l (ended ends_sequence Sequence t).1
+sequence_ends l ps m is [] v w a i sp si = sequence_rest l ps m is [] v w a i (omega arith)
+sequence_ends l ps m is (b ∷ bs) v w a i sp si = by (ends_sequence b) refl
+  where
+    by : (t : Bool) → ends_sequence b ≡ t → Leaves (Spells 0x9B) (cond {A = Kind × List ℕ} t (Sequence, bs) (Broken, b ∷ bs)).0 l (cond {A = Kind × List ℕ} t (Sequence, bs) (Broken, b ∷ bs)).1
+    by true f = sequence_whole l ps m is (b ∷ bs) v w a i b bs refl f
+    by false f = sequence_broken l ps m is (b ∷ bs) v w a i sp si b bs refl f
 
 -- a control at the front, in one form or the other
 begins_one : (k : ℕ) (b : ℕ) (bs : List ℕ) → b ≡ k → begins k (b ∷ bs) ≡ true
