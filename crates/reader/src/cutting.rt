@@ -112,18 +112,16 @@ fn sos<'a>(rest: &'a [u8]) -> (Kind, &'a [u8])
     ensures { Leaves (Spells 0x98) result.0 rest.now result.1.now }
 {
     let mut tail = rest;
-    loop {
+    while let [_, next @ ..] = tail {
         if let Some(after) = after_control(0x9C, tail) {
             return (Kind::String, after);
         }
         if after_control(0x98, tail).is_some() {
             return (Kind::Broken, tail);
         }
-        match tail {
-            [] => return (Kind::Rest, tail),
-            [_, after @ ..] => tail = after,
-        }
+        tail = next;
     }
+    (Kind::Rest, tail)
 }
 
 // The kind of the first item, and what follows it.

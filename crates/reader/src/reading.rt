@@ -124,6 +124,7 @@ impl Reader {
         ensures canonical { StandingsDiffer }
         ensures table { BytesByStanding }
     {
+        // A loop, since no proof follows a chain whose closure changes the reader.
         let mut count = 0;
         for byte in bytes {
             if self.step(*byte).function.is_some() {
@@ -138,6 +139,7 @@ impl Reader {
         ensures answer { result ≡ until_request (standing_of self.now.standing) bytes.now }
         ensures stops { StopsAtRequest }
     {
+        // A loop for the same reason.
         let mut reader = *self;
         for (i, byte) in bytes.iter().enumerate() {
             if requests_reply(reader.step(*byte)) {
