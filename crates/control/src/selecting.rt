@@ -145,15 +145,10 @@ impl Rendition {
     pub fn select(self, parameters: &[Option<u16>], combine: bool) -> Rendition
         ensures { result ≡ selected parameters.now combine self }
     {
-        match parameters {
-            [] => Rendition::standard(),
-            _ => {
-                if combine {
-                    self.changed_all(parameters)
-                } else {
-                    Rendition::standard().changed_all(parameters)
-                }
-            }
+        if parameters.is_empty() {
+            return Rendition::standard();
         }
+        let from = if combine { self } else { Rendition::standard() };
+        from.changed_all(parameters)
     }
 }

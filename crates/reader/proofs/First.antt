@@ -6,7 +6,7 @@ use Rattle.reader.specs.declared.item.Kind.{Kind}
 use Rattle.reader.specs.declared.item.Kind.TheVariants.{Text, Control, Escape, Sequence, String, Broken, Rest}
 use Rattle.reader.specs.Bytes.{is_graphic, is_opener, is_body, is_intermediate, is_parameter, ends_escape, ends_sequence, AllOf, Stops}
 use Rattle.reader.specs.Items.{Spells, begins, is_beginning, is_lone, Free}
-use Rattle.reader.specs.Walks.{opens_more}
+use Rattle.reader.specs.Walks.{ended, opens_more}
 use Rattle.reader.proofs.Forms.{control_one}
 
 -- what is left behind the bytes of a class
@@ -17,11 +17,6 @@ skip P (b ∷ bs) = cond (P b) (skip P bs) (b ∷ bs)
 -- what is left behind a control in either form
 abbrev behind : ℕ → List ℕ → List ℕ
 behind b bs = cond (eqb b 0x1B) (drop 1 bs) bs
-
--- an escape or a sequence, from its final byte
-pub ended : (ℕ → Bool) → Kind → List ℕ → Kind × List ℕ
-ended P k [] = (Rest, [])
-ended P k (b ∷ bs) = cond (P b) (k, bs) (Broken, b ∷ bs)
 
 -- a command string, from the end of its body: an ESC with nothing behind it may begin ST
 abbrev waits : ℕ → List ℕ → Bool
@@ -72,20 +67,17 @@ stops_run P Q apart (b ∷ x) r a s = apart b a.0
 
 -- a final byte that fits, a byte that does not, and none
 pub ended_fits : (P : ℕ → Bool) (k : Kind) (f : ℕ) (r : List ℕ) → P f ≡ true → ended P k (f ∷ r) ≡ (k, r)
-unfolding ended
 ended_fits P k f r h = cond-true (P f) _ _ h
 
 pub ended_broken : (P : ℕ → Bool) (k : Kind) (b : ℕ) (r : List ℕ) → P b ≡ false → ended P k (b ∷ r) ≡ (Broken, b ∷ r)
-unfolding ended
 ended_broken P k b r h = cond-false (P b) _ _ h
 
 pub ended_rest : (P : ℕ → Bool) (k : Kind) → ended P k [] ≡ (Rest, [])
-unfolding ended
 ended_rest P k = refl
 
 -- an ESC, where the byte behind it opens neither a sequence nor a string
 first_escape : (m : List ℕ) → Stops opens_more m → first (0x1B ∷ m) ≡ ended ends_escape Escape (skip is_intermediate m)
-unfolding first escaped skip ended
+unfolding first escaped skip
 first_escape [] s = refl
 first_escape (b ∷ m) s = cond-false (opens_more b) _ _ s
 

@@ -1,14 +1,14 @@
 -- Runs of a class, and the forms of items that are made of them.
 use Rattle.std.proofs.Common.{◌≡◌, ℕ, suc, cond, ◌+◌, ◌-◌, ◌<◌, Bool, true, false, eqb, List, [], ◌∷◌, ◌++◌, length, get_or, take, drop, sym, refl, ap, ◌∙◌, subst, inl, inr, append_assoc, append-nil, not-suc-le-zero, arith, take_all}
-use Rattle.std.proofs.lemmas.Bool.{eq-eqb, or_left, or_right, and_from, or_parts, both_ways}
+use Rattle.std.proofs.lemmas.Bool.{eq-eqb, or_left, or_right, and_from, or_parts}
 use Rattle.std.proofs.lemmas.Bool.Decides.{nat_tests}
 use Rattle.std.specs.List.{prefix_len}
 use Rattle.reader.specs.declared.item.Kind.{Kind}
-use Rattle.reader.specs.declared.item.Kind.TheVariants.{Text, Control, Escape, Sequence, String, Broken, Rest}
+use Rattle.reader.specs.declared.item.Kind.TheVariants.{Control, Escape, Sequence, String, Broken, Rest}
 use Rattle.reader.specs.Bytes.{is_graphic, is_opener, is_body, is_intermediate, is_parameter, ends_escape, ends_sequence, AllOf, Stops}
 use Rattle.reader.specs.Items as item
 use Rattle.reader.specs.Items.{Spells, begins, Free, is_lone, Form}
-use Rattle.reader.specs.Walks.{Leaves, Leads, Opens, opens_more}
+use Rattle.reader.specs.Walks.{Leaves, Leads, Opens, ended, opens_more}
 
 -- the longest front of a class is all of that class
 pub front_all : (P : ℕ → Bool) (bs : List ℕ) → AllOf P (take (prefix_len P bs) bs)
@@ -77,6 +77,23 @@ module _ (l is t : List ℕ) (whole : is ++ t ≡ l) (i : AllOf is_intermediate 
 
   pub escape_broken : Stops is_intermediate t → (b : ℕ) (bs : List ℕ) → b ∷ bs ≡ t → ends_escape b ≡ false → Leaves (λ c. c ≡ 0x1B ∷ []) Broken l t
   escape_broken si b bs e f = (is, whole, λ c s. (item.escape is i (esc c is s), (b, bs, sym e, subst (Stops is_intermediate) (sym e) si, f)))
+
+-- which of these it is, is told by the byte at the end
+pub escape_ends : (l is t : List ℕ) → is ++ t ≡ l → AllOf is_intermediate is → Stops opens_more l → Stops is_intermediate t → Leaves (λ c. c ≡ 0x1B ∷ []) (ended ends_escape Escape t).0 l (ended ends_escape Escape t).1
+escape_ends l is [] w i lone si = escape_rest l is [] w i (omega arith)
+escape_ends l is (b ∷ bs) w i lone si = by (ends_escape b) refl
+  where
+    by : (t : Bool) → ends_escape b ≡ t → Leaves (λ c. c ≡ 0x1B ∷ []) (cond {A = Kind × List ℕ} t (Escape, bs) (Broken, b ∷ bs)).0 l (cond {A = Kind × List ℕ} t (Escape, bs) (Broken, b ∷ bs)).1
+    by true f = escape_whole l is (b ∷ bs) w i lone b bs refl f
+    by false f = escape_broken l is (b ∷ bs) w i si b bs refl f
+
+pub sequence_ends : (l ps m is t : List ℕ) → ps ++ m ≡ l → is ++ t ≡ m → AllOf is_parameter ps → AllOf is_intermediate is → Stops is_parameter m → Stops is_intermediate t → Leaves (Spells 0x9B) (ended ends_sequence Sequence t).0 l (ended ends_sequence Sequence t).1
+sequence_ends l ps m is [] v w a i sp si = sequence_rest l ps m is [] v w a i (omega arith)
+sequence_ends l ps m is (b ∷ bs) v w a i sp si = by (ends_sequence b) refl
+  where
+    by : (t : Bool) → ends_sequence b ≡ t → Leaves (Spells 0x9B) (cond {A = Kind × List ℕ} t (Sequence, bs) (Broken, b ∷ bs)).0 l (cond {A = Kind × List ℕ} t (Sequence, bs) (Broken, b ∷ bs)).1
+    by true f = sequence_whole l ps m is (b ∷ bs) v w a i b bs refl f
+    by false f = sequence_broken l ps m is (b ∷ bs) v w a i sp si b bs refl f
 
 -- a control at the front, in one form or the other
 begins_one : (k : ℕ) (b : ℕ) (bs : List ℕ) → b ≡ k → begins k (b ∷ bs) ≡ true
@@ -148,9 +165,6 @@ clear_more (y ∷ x) b t h p q =
 abbrev pub Sofar : List ℕ → List ℕ → Type 0
 Sofar l t = (x : List ℕ) × (x ++ t ≡ l) × Clear x t
 
-pub sofar_none : (l : List ℕ) → Sofar l l
-sofar_none l = ([], refl, tt)
-
 pub sofar_more : (l t : List ℕ) (b : ℕ) (bs : List ℕ) → Sofar l t → b ∷ bs ≡ t → begins 0x9C t ≡ false → begins 0x98 t ≡ false → Sofar l bs
 sofar_more l t b bs s e p q =
     let at = λ (z : List ℕ). Clear s.0 z in
@@ -178,15 +192,6 @@ front_one t k h e = ap (λ (j : ℕ). j ∷ take (length t - 1) (drop 1 t)) (sym
 
 pub front_two : (t : List ℕ) (j k : ℕ) → 1 < length t → get_or t 0 0 ≡ j → get_or t 1 0 ≡ k → (j ∷ k ∷ []) ++ take (length t - 2) (drop 2 t) ≡ t
 front_two t j k h e f = (λ i. sym e i ∷ sym f i ∷ take (length t - 2) (drop 2 t)) ∙ pattern_two t h
-
--- a text is not empty, since its first byte is graphic
-pub text_leads : (l x t : List ℕ) → x ++ t ≡ l → AllOf is_graphic x → Stops is_graphic t → 0 < length l → is_graphic (get_or l 0 0) ≡ true → Leads Text l t
-text_leads l [] t e a s h g = absurd (first_stops t (subst (λ (z : List ℕ). 0 < length z) (sym e) h) s (ap (λ (z : List ℕ). is_graphic (get_or z 0 0)) e ∙ g))
-  where
-    first_stops : (t : List ℕ) → 0 < length t → Stops is_graphic t → is_graphic (get_or t 0 0) ≡ true → ⊥
-    first_stops [] h s g = absurd (not-suc-le-zero h)
-    first_stops (b ∷ bs) h s g = both_ways (is_graphic b) s g
-text_leads l (b ∷ x) t e a s h g = (b ∷ x, e, (omega arith, a, s))
 
 pub control_leads : (l : List ℕ) → 0 < length l → is_lone (get_or l 0 0) ≡ true → Leads Control l (take (length l - 1) (drop 1 l))
 control_leads l h g = (get_or l 0 0 ∷ [], pattern_one l h, (get_or l 0 0, refl, g))

@@ -1,7 +1,7 @@
 -- What items tell: the sequence that bytes perform, and the parts of a string.
 use Rattle.std.proofs.Common.{◌≡◌, ℕ, ◌+◌, ◌-◌, ◌<◌, min, true, false, cond, eqb, List, [], ◌∷◌, ◌++◌, suc, drop-cons, length, get_or, take, drop, Some, None, Option, sym, refl, ap, ◌∙◌, subst, inl, inr, append_assoc, append-nil, arith, take-append-drop, MatchOption}
 use Rattle.std.proofs.lemmas.List.{append_cancel_right}
-use Rattle.std.proofs.lemmas.Bool.{false≢true, cond-false, or_left, or_right}
+use Rattle.std.proofs.lemmas.Bool.{false≢true, cond-false}
 use Rattle.std.proofs.lemmas.Bool.Decides.{nat_tests}
 use Rattle.std.proofs.Math.Seq.{drop-length}
 use Rattle.std.specs.Option.{is_some, option_map, option_to_list}
@@ -10,12 +10,11 @@ use Rattle.reader.specs.declared.function.Completed.{Completed}
 use Rattle.reader.specs.declared.item.ControlString.{ControlString}
 use Rattle.reader.specs.declared.item.Kind.{Kind}
 use Rattle.reader.specs.declared.item.Kind.TheVariants.{Text, Control, Escape, Sequence, String, Broken, Rest}
-use Rattle.reader.specs.Bytes.{is_opener}
 use Rattle.reader.specs.Functions.{Function, Parameters, graphic, control, reset, sequence}
 use Rattle.reader.specs.Steps.{Standing, step, rest, standing_after, performed}
 use Rattle.reader.specs.Numbers.{numbers, sequence_performs}
 use Rattle.reader.specs.Meaning.{function_of, functions_of}
-use Rattle.reader.specs.Telling.{only_sequence, tells_sequence, SequencesTell, opens_string, Opened, Closed, StringParts, TellsString, StringIsOnly, StringsTell}
+use Rattle.reader.specs.Telling.{only_sequence, tells_sequence, SequencesTell, opens_string, Opened, Closed, StringParts, TellsString, StringIsOnly}
 use Rattle.reader.proofs.Parts.{performed_parts, performed_more}
 use Rattle.reader.proofs.Grammar.{items_perform}
 
@@ -148,12 +147,6 @@ pub string_is_only : StringIsOnly
 string_is_only kind x j k a b (_, (l, o, c)) (_, (m, p, d)) =
     let same = opened_is_only x j k l m o p in
     (same.0, closed_is_only m a b (subst (λ (z : List ℕ). Closed z a) same.1 c) d)
-
-pub strings_tell : StringsTell
-strings_tell x = (
-  λ f. (refl, (f.body ++ f.st, (f.opener, or_left (is_opener f.by) _ f.known, f.opens, f.spelled), (f.st, f.ends, refl))),
-  λ f. (refl, (f.body ++ f.st, (f.opener, or_right (is_opener f.by) _ f.known, f.opens, f.spelled), (f.st, f.ends, refl))),
-)
 
 -- no parts
 pub unopened_parts : (x : List ℕ) → ((k : ℕ) (l : List ℕ) → Opened x k l → ⊥) → (k : ℕ) (body : List ℕ) → StringParts x k body → ⊥

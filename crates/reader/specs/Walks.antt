@@ -1,7 +1,8 @@
 -- One step of the walk along bytes, item by item, and the parts of it.
-use Rattle.std.specs.Prelude.{◌≡◌, ℕ, ◌+◌, ◌<◌, Bool, true, List, ◌++◌, length, drop}
+use Rattle.std.specs.Prelude.{◌≡◌, ℕ, ◌+◌, ◌<◌, Bool, true, cond, List, [], ◌∷◌, ◌++◌, length, drop}
 use Rattle.reader.specs.declared.item.Item.{Item}
 use Rattle.reader.specs.declared.item.Kind.{Kind}
+use Rattle.reader.specs.declared.item.Kind.TheVariants.{Broken, Rest}
 use Rattle.reader.specs.Bytes.{is_opener}
 use Rattle.reader.specs.Items.{Form, Spells, is_beginning}
 
@@ -25,6 +26,11 @@ pub record Handed (bs : List ℕ) (from to : ℕ) (i : Item) : Type 0 where
 -- after an opening, an item goes on by x, and t is left of l
 abbrev pub Leaves : (List ℕ → Type 0) → Kind → List ℕ → List ℕ → Type 0
 Leaves Opening k l t = (x : List ℕ) × (x ++ t ≡ l) × ((c : List ℕ) → Opening c → Form k (c ++ x) t)
+
+-- an item of the kind from its final byte on, and what is left behind it
+abbrev pub ended : (ℕ → Bool) → Kind → List ℕ → Kind × List ℕ
+ended P k [] = (Rest, [])
+ended P k (b ∷ bs) = cond (P b) (k, bs) (Broken, b ∷ bs)
 
 -- ESC and this byte begin a sequence or a string
 abbrev pub opens_more : ℕ → Bool

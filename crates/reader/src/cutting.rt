@@ -3,7 +3,7 @@ ghost use Rattle.std.specs.Prelude.{◌≡◌, ℕ, ◌+◌, ◌<◌, ◌≤◌,
 ghost use Rattle.reader.specs.Bytes.{AllOf, Stops};
 ghost use Rattle.reader.specs.Items.{Spells, begins};
 ghost use Rattle.reader.specs.Classes.{member};
-ghost use Rattle.reader.specs.Walks.{Ended, Handed, Leaves, Leads, Opens, opens_more};
+ghost use Rattle.reader.specs.Walks.{Leaves, Leads, Opens, ended, opens_more};
 ghost use Rattle.reader.specs.Performs.{Part, Cut, ItemsPerform, CutsPerform, CutIsOnly, RestIsUnfinished};
 
 use crate::item::{Item, Items, Kind};
@@ -50,17 +50,25 @@ fn run<'a>(class: Class, bytes: &'a [u8]) -> (&'a [u8], &'a [u8])
     bytes.split_at(n)
 }
 
+// An item of the kind from its final byte, which is of the class: the kind, and what follows the item.
+fn ended<'a>(class: Class, kind: Kind, tail: &'a [u8]) -> (Kind, &'a [u8])
+    ensures kind { result.0 ≡ (ended (member class) kind tail.now).0 }
+    ensures after { result.1.now ≡ (ended (member class) kind tail.now).1 }
+{
+    match tail {
+        [] => (Kind::Rest, tail),
+        [last, after @ ..] if belongs(class, *last) => (kind, after),
+        [_, ..] => (Kind::Broken, tail),
+    }
+}
+
 // After CSI: the kind, and what follows the item.
 fn sequence<'a>(rest: &'a [u8]) -> (Kind, &'a [u8])
     ensures { Leaves (Spells 0x9B) result.0 rest.now result.1.now }
 {
     let (_, marks) = run(Class::Parameter, rest);
     let (_, tail) = run(Class::Intermediate, marks);
-    match tail {
-        [] => (Kind::Rest, tail),
-        [last, after @ ..] if belongs(Class::SequenceFinal, *last) => (Kind::Sequence, after),
-        [_, ..] => (Kind::Broken, tail),
-    }
+    ended(Class::SequenceFinal, Kind::Sequence, tail)
 }
 
 // After ESC, where the next byte opens nothing longer.
@@ -69,11 +77,7 @@ fn escape<'a>(rest: &'a [u8]) -> (Kind, &'a [u8])
     ensures { Leaves (λ c. c ≡ 0x1B ∷ []) result.0 rest.now result.1.now }
 {
     let (_, tail) = run(Class::Intermediate, rest);
-    match tail {
-        [] => (Kind::Rest, tail),
-        [last, after @ ..] if belongs(Class::EscapeFinal, *last) => (Kind::Escape, after),
-        [_, ..] => (Kind::Broken, tail),
-    }
+    ended(Class::EscapeFinal, Kind::Escape, tail)
 }
 
 // What follows a C1 control, in either form, at the front.
@@ -108,18 +112,16 @@ fn sos<'a>(rest: &'a [u8]) -> (Kind, &'a [u8])
     ensures { Leaves (Spells 0x98) result.0 rest.now result.1.now }
 {
     let mut tail = rest;
-    loop {
+    while let [_, next @ ..] = tail {
         if let Some(after) = after_control(0x9C, tail) {
             return (Kind::String, after);
         }
         if after_control(0x98, tail).is_some() {
             return (Kind::Broken, tail);
         }
-        match tail {
-            [] => return (Kind::Rest, tail),
-            [_, after @ ..] => tail = after,
-        }
+        tail = next;
     }
+    (Kind::Rest, tail)
 }
 
 // The kind of the first item, and what follows it.

@@ -5,7 +5,7 @@
 //
 // `Reader::step` reads one byte and `Reader::read` a slice, wherever the bytes were cut before.
 // `Reader::until_request` tells how many bytes go up to a request for a reply.
-// `Items` cuts a slice into items, each a part of it; `count_items` walks to the end.
+// `Items` is an iterator that cuts a slice into items, each a part of it; `count_items` walks to the end.
 // `Item::sequence` tells the parameters, space and final byte of a sequence item that is within the bounds,
 // `Item::string` the opener and body of a string item.
 

@@ -24,6 +24,7 @@ impl Reader {
     }
 
     // Reads one byte, and answers what it completes.
+    // Each arm writes its standing in place: tried as calls of one function that takes it, screens took 5 in 100 more instructions.
     pub fn step(&mut self, byte: u8) -> Completed
         ensures standing { standing_of self.new.standing ≡ (steps (standing_of self.old.standing) byte).standing }
         ensures completes { functions_of result ≡ (steps (standing_of self.old.standing) byte).performs }
@@ -123,6 +124,7 @@ impl Reader {
         ensures canonical { StandingsDiffer }
         ensures table { BytesByStanding }
     {
+        // A loop, since no proof follows a chain whose closure changes the reader.
         let mut count = 0;
         for byte in bytes {
             if self.step(*byte).function.is_some() {
@@ -137,6 +139,7 @@ impl Reader {
         ensures answer { result ≡ until_request (standing_of self.now.standing) bytes.now }
         ensures stops { StopsAtRequest }
     {
+        // A loop for the same reason.
         let mut reader = *self;
         for (i, byte) in bytes.iter().enumerate() {
             if requests_reply(reader.step(*byte)) {
@@ -160,7 +163,7 @@ impl Reader {
                 };
                 NOTHING
             }
-            0x90 | 0x9D | 0x9E | 0x9F => {
+            0x90 | 0x9D..=0x9F => {
                 self.standing = Standing::CommandString;
                 NOTHING
             }
@@ -192,13 +195,14 @@ fn completed(function: Function) -> Completed
 fn finished(parameters: Option<Parameters>, space: bool, final_byte: u8) -> Completed
     ensures { functions_of result ≡ (sequence_final (parameters_in parameters) space final_byte).performs }
 {
-    match parameters {
-        Some(parameters) => completed(Function::Sequence(Sequence {
-            parameters,
-            space,
-            final_byte,
-        })),
-        None => NOTHING,
+    Completed {
+        function: parameters.map(|parameters| {
+            Function::Sequence(Sequence {
+                parameters,
+                space,
+                final_byte,
+            })
+        }),
     }
 }
 

@@ -40,6 +40,7 @@ fn performed_sequence(bytes: &[u8]) -> Option<Sequence>
 {
     let mut reader = Reader::new();
     let mut told = None;
+    // A loop, since no proof follows a chain whose closure changes the reader.
     for byte in bytes {
         if let Some(function) = reader.step(*byte).function {
             if told.replace(function).is_some() {

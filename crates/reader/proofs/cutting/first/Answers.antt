@@ -1,7 +1,7 @@
 use Rattle.std.proofs.Common.{[], ◌∷◌, get_or, sym, refl, inl, rules}
 use Rattle.reader.specs.Items.{Spells}
 use Rattle.reader.specs.Walks.{Opens}
-use Rattle.reader.proofs.Forms.{lead_by, front_one, text_leads, control_leads, lone_rest}
+use Rattle.reader.proofs.Forms.{lead_by, front_one, control_leads, lone_rest}
 use Rattle.reader.proofs.cutting.first.Goals as goal
 
 pub returns-in-155 : goal.returns-in-155
@@ -14,9 +14,6 @@ pub returns-in-len1-up : goal.returns-in-len1-up
 returns-in-len1-up c =
     let byte = get_or c.args.bytes.now 0 0 in
     lead_by Opens _ _ _ _ (byte ∷ []) c.string.ensures (byte, sym c.if-belongs.ensures, inl refl) (front_one c.args.bytes.now byte (search rules) refl)
-
-pub returns-in-len1-up-2 : goal.returns-in-len1-up-2
-returns-in-len1-up-2 c = text_leads c.args.bytes.now _ _ c.run.ensures.whole c.run.ensures.all c.run.ensures.stops (search rules) (sym c.if-belongs-2.ensures)
 
 pub returns-in-len1-up-3 : goal.returns-in-len1-up-3
 returns-in-len1-up-3 c =

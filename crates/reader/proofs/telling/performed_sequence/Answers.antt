@@ -1,6 +1,5 @@
-use Rattle.std.proofs.Common.{ap, ◌∙◌, take_all, rules}
-use Rattle.reader.specs.Steps.{rest, performed}
-use Rattle.reader.specs.Telling.{only_sequence}
+use Rattle.std.proofs.Common.{rules}
+use Rattle.reader.specs.Steps.{rest}
 use Rattle.reader.proofs.Parts.{turn_standing}
 use Rattle.reader.proofs.Tells.{told_same, told_first, told_none, some_is}
 use Rattle.reader.proofs.telling.performed_sequence.Goals as goal
@@ -22,8 +21,3 @@ returns-then-is_some c =
     let i = c.loop-byte.invariant in
     let before = some_is c.loop-byte.told (search rules) in
     told_none _ _ _ _ c.args.bytes.now c.loop-byte-test.true i.0 i.1 c.step.ensures.completes _ _ before.1 c.in-Some.is
-
-pub returns : goal.returns
-returns c =
-    let whole = take_all _ c.args.bytes.now c.loop-byte-test.false in
-    c.as_sequence.ensures ∙ ap only_sequence (c.loop-byte.invariant.1 ∙ ap (performed rest) whole)

@@ -6,6 +6,3 @@ returns-in_err-opener c = rw c.from_residual.ensures (unopened_parts _ c.in_err-
 
 pub returns-in_err-body : goal.returns-in_err-body
 returns-in_err-body c = rw c.from_residual-in_err-body.ensures (unclosed_parts _ _ _ c.in_ok-opener.ensures c.in_err-body.ensures)
-
-pub returns : goal.returns
-returns c = (_, c.in_ok-opener.ensures, c.in_ok-body.ensures)

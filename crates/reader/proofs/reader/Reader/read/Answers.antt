@@ -1,8 +1,7 @@
-use Rattle.std.proofs.Common.{◌≡◌, cond, Option, Some, None, rules, length, refl, ap, ◌∙◌, arith, take_all}
+use Rattle.std.proofs.Common.{◌≡◌, cond, Option, Some, None, rules, length, refl, arith}
 use Rattle.std.specs.Option.{is_some, option_map, option_to_list}
 use Rattle.reader.specs.declared.function.Function.{Function}
-use Rattle.reader.specs.Steps.{standing_after, performed}
-use Rattle.reader.specs.Meaning.{standing_of, function_of, functions_of}
+use Rattle.reader.specs.Meaning.{function_of, functions_of}
 use Rattle.reader.proofs.Parts.{reads_in_parts, turn_standing, turn_performed}
 use Rattle.reader.proofs.Strings.{reads_numbers}
 use Rattle.reader.proofs.Standings.{reads_reset, standings_differ}
@@ -27,15 +26,17 @@ loop-byte-preserved c =
       | else-is_some w ↦ let none : length (functions_of c.step.result) ≡ 0 = search rules in (standing, omega (arith, w.count-is, performs, none), omega (arith, w.count-is))
     ]
 
-pub returns : goal.returns
-returns c =
-    let whole = take_all _ c.args.bytes.now c.loop-byte-test.false in
-    record {
-      standing = c.loop-byte.invariant.0 ∙ ap (standing_after _) whole;
-      performs = c.loop-byte.invariant.1 ∙ ap (λ l. length (performed (standing_of c.args.self.now.standing) l)) whole;
-      parts = reads_in_parts;
-      numbers = reads_numbers;
-      reset = reads_reset;
-      canonical = standings_differ;
-      table = bytes_by_standing;
-    }
+pub returns-clause-parts : goal.returns-clause-parts
+returns-clause-parts c = reads_in_parts
+
+pub returns-clause-numbers : goal.returns-clause-numbers
+returns-clause-numbers c = reads_numbers
+
+pub returns-clause-reset : goal.returns-clause-reset
+returns-clause-reset c = reads_reset
+
+pub returns-clause-canonical : goal.returns-clause-canonical
+returns-clause-canonical c = standings_differ
+
+pub returns-clause-table : goal.returns-clause-table
+returns-clause-table c = bytes_by_standing

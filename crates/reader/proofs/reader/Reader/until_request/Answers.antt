@@ -1,10 +1,7 @@
-use Rattle.std.proofs.Common.{sym, ap, ◌∙◌, zero-add, arith}
+use Rattle.std.proofs.Common.{sym, ap, ◌∙◌, arith}
 use Rattle.reader.specs.Requests.{any_requests}
 use Rattle.reader.proofs.Stopping.{stops_at_request, stops_here, goes_on, stops_at_end}
 use Rattle.reader.proofs.reader.Reader.until_request.Goals as goal
-
-pub loop-i-init : goal.loop-i-init
-loop-i-init c = sym (zero-add _)
 
 pub loop-i-preserved : goal.loop-i-preserved
 loop-i-preserved c =
