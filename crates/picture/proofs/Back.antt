@@ -160,15 +160,15 @@ control_back b h =
     (λ e. let o = by_step (control b) (b - 64) (escape false) (escaped_is b h e ∙ single_ends b h) in record { performs = o.0; rests = o.1 })
     (λ e. let o = by_step (control b) b rest (single_ends b h) in record { performs = o.0; rests = o.1 })
 
-spaces : (space : Bool) → AllOf is_intermediate (space_bytes space)
+pub spaces : (space : Bool) → AllOf is_intermediate (space_bytes space)
 spaces true = (refl, tt)
 spaces false = tt
 
-spaced : (ps : List Parameter) (space : Bool) (f : ℕ) → sequence_performs (Some ps) (space_bytes space) f ≡ sequence ps space f ∷ []
+pub spaced : (ps : List Parameter) (space : Bool) (f : ℕ) → sequence_performs (Some ps) (space_bytes space) f ≡ sequence ps space f ∷ []
 spaced ps true f = refl
 spaced ps false f = refl
 
-pub sequence_form : (ps : List Parameter) (space : Bool) (f : ℕ) → Fits ps → ends_sequence f ≡ true → Sequenced (0x1B ∷ 0x5B ∷ (parameters_bytes ps ++ (space_bytes space ++ (f ∷ []))))
+abbrev pub sequence_form : (ps : List Parameter) (space : Bool) (f : ℕ) → Fits ps → ends_sequence f ≡ true → Sequenced (0x1B ∷ 0x5B ∷ (parameters_bytes ps ++ (space_bytes space ++ (f ∷ []))))
 sequence_form ps space f h e = record {
   csi = 0x1B ∷ 0x5B ∷ [];
   parameters = parameters_bytes ps;

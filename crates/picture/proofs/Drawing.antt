@@ -2,12 +2,12 @@
 use Rattle.std.proofs.Common.{◌≡◌, ℕ, suc, ◌-◌, ◌≤◌, max, true, false, cond, List, [], ◌∷◌, ◌++◌, map, length, set, replicate, Some, refl, ap, ◌∙◌, arith}
 use Rattle.std.proofs.lemmas.Bool.{cond-true, cond-false}
 use Rattle.panel.specs.Grids.{Grid, on, index, with_cells}
-use Rattle.reader.specs.Functions.{Function, graphic, control, reset}
+use Rattle.reader.specs.Functions.{Function, graphic, control}
 use Rattle.control.specs.declared.rendition.Rendition.{Rendition}
 use Rattle.control.specs.Renditions.{number}
 use Rattle.page.specs.Sheets.{Sheet, at, rendered, with_stops, in_modes, on_state}
 use Rattle.page.specs.Moves.{inside, right}
-use Rattle.page.specs.Effects.{begun, does, does_all}
+use Rattle.page.specs.Effects.{does, does_all}
 use Rattle.page.proofs.BytesAct.{does_append}
 use Rattle.picture.specs.Renditions.{parameters_of}
 use Rattle.picture.specs.Writable.{Small, Told, Fits, Writable}
@@ -40,9 +40,6 @@ sets_column_stop x = refl
 
 pub sets_line_stop : (x : Sheet) → does (control 0x8A) x ≡ on_state (with_stops x.state.column_stops (set x.state.line_stops (x.state.line - 1) true)) x
 sets_line_stop x = refl
-
-pub resets : (x : Sheet) → does reset x ≡ begun x.grid
-resets x = refl
 
 -- a graphic character, without insertion and on the panel
 pub shows : (x : Sheet) (b : ℕ) → x.state.modes.insertion ≡ false → on x.grid x.state.line x.state.column ≡ true
