@@ -53,19 +53,6 @@ no_length [] e = refl
 no_length (x ∷ xs) e = absurd (omega (arith, e))
 
 module _ (x : Plain) (y : OnPanel) (b : List ℕ) where
-  -- refused before the picture
-  pub refused_size : (r : Result ℕ Refusal) (e : Refusal) → IsErrAnd r (λ f. f ≡ e) → answer {A = Unit {0}} (Err e) ≡ size_answer x.sheet.grid y.plain.sheet.grid → Copies x y r y b b
-  refused_size (Ok n) e h a = absurd h
-  refused_size (Err f) e h a = record { says = ap (λ (q : Refusal). answer (Err q)) h ∙ ap (λ (q : Answer (Unit {0})). unless_refused q (unless_refused (takes_picture y.plain) (pictures (length b) x).says)) a; done = (refl, refl) }
-
-  pub refused_target : (r : Result ℕ Refusal) (e : Refusal) → accepted tt ≡ size_answer x.sheet.grid y.plain.sheet.grid → IsErrAnd r (λ f. f ≡ e) → answer {A = Unit {0}} (Err e) ≡ takes_picture y.plain → Copies x y r y b b
-  refused_target (Ok n) e s h a = absurd h
-  refused_target (Err f) e s h a =
-      record {
-        says = ap (λ (q : Refusal). answer (Err q)) h ∙ ap (λ (q : Answer (Unit {0})). unless_refused q (pictures (length b) x).says) a ∙ ap (λ (q : Answer (Unit {0})). unless_refused q (unless_refused (takes_picture y.plain) (pictures (length b) x).says)) s;
-        done = (refl, refl);
-      }
-
   module _ (s : accepted tt ≡ size_answer x.sheet.grid y.plain.sheet.grid) (t : accepted tt ≡ takes_picture y.plain) where
     goes_on : (pictures (length b) x).says ≡ copy_answer x y.plain (length b)
     goes_on =
