@@ -1,5 +1,6 @@
 -- What the functions of a picture do, and that they can be written and request nothing.
-use Rattle.std.proofs.Common.{◌≡◌, ℕ, suc, ◌-◌, ◌≤◌, max, true, false, cond, List, [], ◌∷◌, ◌++◌, map, length, set, replicate, Some, refl, ap, ◌∙◌, arith}
+use Rattle.std.proofs.Common.{◌≡◌, ℕ, ◌-◌, ◌≤◌, max, true, false, cond, List, [], ◌∷◌, ◌++◌, map, length, set, replicate, Some, refl, ap, ◌∙◌, arith}
+use Rattle.std.proofs.lemmas.List.{length-map}
 use Rattle.std.proofs.lemmas.Bool.{cond-true, cond-false}
 use Rattle.panel.specs.Grids.{Grid, on, index, with_cells}
 use Rattle.reader.specs.Functions.{Function, graphic, control}
@@ -57,12 +58,8 @@ low_told : (ns : List ℕ) → Told (map Some ns)
 low_told [] = tt
 low_told (n ∷ ns) = tt
 
-length_some : (ns : List ℕ) → length (map Some ns) ≡ length ns
-length_some [] = refl
-length_some (n ∷ ns) = ap suc (length_some ns)
-
 pub writes_numbers : (ns : List ℕ) → Low ns → length ns ≤ 16 → Fits (map Some ns)
-writes_numbers ns low few = record { small = low_small ns low; told = low_told ns; few = omega (arith, length_some ns) }
+writes_numbers ns low few = record { small = low_small ns low; told = low_told ns; few = omega (arith, length-map ns Some) }
 
 pub writes_cup : (l c : ℕ) → l ≤ 9999 → c ≤ 9999 → Writable (cup l c)
 writes_cup l c a b = (writes_numbers (l ∷ c ∷ []) (a, (b, tt)) (omega arith), refl)
