@@ -1,5 +1,6 @@
 -- Functions that are written are read back.
-use Rattle.std.proofs.Common.{◌≡◌, ℕ, suc, ◌+◌, ◌-◌, ◌*◌, ◌/◌, ◌%◌, ◌≤◌, min, Bool, true, false, cond, ◌&&◌, ◌||◌, eqb, ltb, leb, List, [], ◌∷◌, ◌++◌, map, length, Some, None, sym, refl, ap, ◌∙◌, subst, inr, zero-add, arith}
+use Rattle.std.proofs.Common.{◌≡◌, ℕ, ◌+◌, ◌-◌, ◌*◌, ◌/◌, ◌%◌, ◌≤◌, min, Bool, true, false, cond, ◌&&◌, ◌||◌, eqb, ltb, leb, List, [], ◌∷◌, ◌++◌, map, length, Some, None, sym, refl, ap, ◌∙◌, subst, inr, zero-add, arith}
+use Rattle.std.proofs.lemmas.List.{length-map}
 use Rattle.std.proofs.lemmas.Bool.{cond-true, cond-false, cond_both, ltb-true, ltb-false, leb-true, le-leb, and_from}
 use Rattle.std.proofs.lemmas.Bool.Decides.{nat_tests}
 use Rattle.reader.specs.declared.item.Kind.TheVariants.{Sequence}
@@ -82,15 +83,11 @@ values_back [] s = refl
 values_back (None ∷ ps) s = ap (λ (l : List Parameter). None ∷ l) (values_back ps s)
 values_back (Some n ∷ ps) s = λ i. (digits_read n s.0).is i ∷ values_back ps s.1 i
 
-length_parts : (ps : List Parameter) → length (map parameter_bytes ps) ≡ length ps
-length_parts [] = refl
-length_parts (p ∷ ps) = ap suc (length_parts ps)
-
 -- a string that is not empty
 full : (s : List ℕ) (ps : List Parameter) → parts s ≡ map parameter_bytes ps → plain s ≡ true → Small ps → length ps ≤ 16 → (s ≡ [] → ⊥) → numbers s ≡ Some ps
 full [] ps e p m l n = absurd (n refl)
 full (b ∷ bs) ps e p m l n =
-    cond-true (plain (b ∷ bs) && leb (length (parts (b ∷ bs))) 16) _ _ (and_from (plain (b ∷ bs)) _ p (le-leb _ 16 (omega (arith, ap length e, length_parts ps))))
+    cond-true (plain (b ∷ bs) && leb (length (parts (b ∷ bs))) 16) _ _ (and_from (plain (b ∷ bs)) _ p (le-leb _ 16 (omega (arith, ap length e, length-map ps parameter_bytes))))
     ∙ ap (λ (l : List (List ℕ)). Some (map value l)) e ∙ ap Some (values_back ps m)
 
 IsEmpty : Parameter → Type 0
@@ -160,15 +157,15 @@ control_back b h =
     (λ e. let o = by_step (control b) (b - 64) (escape false) (escaped_is b h e ∙ single_ends b h) in record { performs = o.0; rests = o.1 })
     (λ e. let o = by_step (control b) b rest (single_ends b h) in record { performs = o.0; rests = o.1 })
 
-spaces : (space : Bool) → AllOf is_intermediate (space_bytes space)
+pub spaces : (space : Bool) → AllOf is_intermediate (space_bytes space)
 spaces true = (refl, tt)
 spaces false = tt
 
-spaced : (ps : List Parameter) (space : Bool) (f : ℕ) → sequence_performs (Some ps) (space_bytes space) f ≡ sequence ps space f ∷ []
+pub spaced : (ps : List Parameter) (space : Bool) (f : ℕ) → sequence_performs (Some ps) (space_bytes space) f ≡ sequence ps space f ∷ []
 spaced ps true f = refl
 spaced ps false f = refl
 
-pub sequence_form : (ps : List Parameter) (space : Bool) (f : ℕ) → Fits ps → ends_sequence f ≡ true → Sequenced (0x1B ∷ 0x5B ∷ (parameters_bytes ps ++ (space_bytes space ++ (f ∷ []))))
+abbrev pub sequence_form : (ps : List Parameter) (space : Bool) (f : ℕ) → Fits ps → ends_sequence f ≡ true → Sequenced (0x1B ∷ 0x5B ∷ (parameters_bytes ps ++ (space_bytes space ++ (f ∷ []))))
 sequence_form ps space f h e = record {
   csi = 0x1B ∷ 0x5B ∷ [];
   parameters = parameters_bytes ps;

@@ -1,13 +1,14 @@
 -- What the functions of a picture do, and that they can be written and request nothing.
-use Rattle.std.proofs.Common.{◌≡◌, ℕ, suc, ◌-◌, ◌≤◌, max, true, false, cond, List, [], ◌∷◌, ◌++◌, map, length, set, replicate, Some, refl, ap, ◌∙◌, arith}
+use Rattle.std.proofs.Common.{◌≡◌, ℕ, ◌-◌, ◌≤◌, max, true, false, cond, List, [], ◌∷◌, ◌++◌, map, length, set, replicate, Some, refl, ap, ◌∙◌, arith}
+use Rattle.std.proofs.lemmas.List.{length-map}
 use Rattle.std.proofs.lemmas.Bool.{cond-true, cond-false}
 use Rattle.panel.specs.Grids.{Grid, on, index, with_cells}
-use Rattle.reader.specs.Functions.{Function, graphic, control, reset}
+use Rattle.reader.specs.Functions.{Function, graphic, control}
 use Rattle.control.specs.declared.rendition.Rendition.{Rendition}
 use Rattle.control.specs.Renditions.{number}
 use Rattle.page.specs.Sheets.{Sheet, at, rendered, with_stops, in_modes, on_state}
 use Rattle.page.specs.Moves.{inside, right}
-use Rattle.page.specs.Effects.{begun, does, does_all}
+use Rattle.page.specs.Effects.{does, does_all}
 use Rattle.page.proofs.BytesAct.{does_append}
 use Rattle.picture.specs.Renditions.{parameters_of}
 use Rattle.picture.specs.Writable.{Small, Told, Fits, Writable}
@@ -41,9 +42,6 @@ sets_column_stop x = refl
 pub sets_line_stop : (x : Sheet) → does (control 0x8A) x ≡ on_state (with_stops x.state.column_stops (set x.state.line_stops (x.state.line - 1) true)) x
 sets_line_stop x = refl
 
-pub resets : (x : Sheet) → does reset x ≡ begun x.grid
-resets x = refl
-
 -- a graphic character, without insertion and on the panel
 pub shows : (x : Sheet) (b : ℕ) → x.state.modes.insertion ≡ false → on x.grid x.state.line x.state.column ≡ true
     → does (graphic b) x ≡ record { state = right 1 x.state; grid = with_cells x.grid (set x.grid.cells (index x.grid x.state.line x.state.column) (record { code = b; rendition = number x.state.rendition })) }
@@ -60,12 +58,8 @@ low_told : (ns : List ℕ) → Told (map Some ns)
 low_told [] = tt
 low_told (n ∷ ns) = tt
 
-length_some : (ns : List ℕ) → length (map Some ns) ≡ length ns
-length_some [] = refl
-length_some (n ∷ ns) = ap suc (length_some ns)
-
 pub writes_numbers : (ns : List ℕ) → Low ns → length ns ≤ 16 → Fits (map Some ns)
-writes_numbers ns low few = record { small = low_small ns low; told = low_told ns; few = omega (arith, length_some ns) }
+writes_numbers ns low few = record { small = low_small ns low; told = low_told ns; few = omega (arith, length-map ns Some) }
 
 pub writes_cup : (l c : ℕ) → l ≤ 9999 → c ≤ 9999 → Writable (cup l c)
 writes_cup l c a b = (writes_numbers (l ∷ c ∷ []) (a, (b, tt)) (omega arith), refl)

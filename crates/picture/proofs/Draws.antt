@@ -4,7 +4,7 @@ use Rattle.std.proofs.lemmas.List.{append_assoc, append-nil}
 use Rattle.reader.specs.Functions.{Function}
 use Rattle.picture.specs.Writing.{written, all_written}
 use Rattle.picture.specs.Tape.{Tape, Lays}
-use Rattle.picture.proofs.Tapes.{lays_none, then, being, leads_all, leads_on, leads_end}
+use Rattle.picture.proofs.Tapes.{lays_none, then, being, leads_on, leads_end}
 use Rattle.picture.specs.Draws.{Draws, Leaves}
 
 pub all_written_append : (fs gs : List Function) → all_written (fs ++ gs) ≡ all_written fs ++ all_written gs
@@ -25,9 +25,6 @@ draws_both {t} {u} {v} {fs} {gs} a b = record { lays = being (then a.lays b.lays
 
 pub draws_as : {t u : Tape} {fs gs : List Function} → Draws t fs u → fs ≡ gs → Draws t gs u
 draws_as d e = record { lays = being d.lays (ap all_written e) }
-
-pub leaves_all : {t : Tape} {fs : List Function} → Leaves t fs t fs
-leaves_all = record { leads = leads_all }
 
 pub leaves_on : {t u v : Tape} {all left fs gs : List Function} → Leaves u left t all → left ≡ fs ++ gs → Draws u fs v → Leaves v gs t all
 leaves_on {t} {u} {v} {all} {left} {fs} {gs} l e d = record { leads = leads_on l.leads (ap all_written e ∙ all_written_append fs gs) d.lays }

@@ -1,33 +1,10 @@
 -- The scan for a foreign cell.
-use Rattle.std.proofs.Common.{◌≡◌, ℕ, zero, suc, ◌+◌, ◌<◌, ◌≤◌, Bool, true, false, List, [], ◌∷◌, length, get_or, drop, is_some, Some, None, Option, sym, refl, ap, ◌∙◌, arith}
-use Rattle.std.proofs.lemmas.List.{drop_more, drop_all}
+use Rattle.std.proofs.Common.{◌≡◌, ℕ, zero, suc, ◌+◌, ◌<◌, Bool, true, false, List, [], ◌∷◌, length, get_or, is_some, Some, None, Option, sym, refl, ap, arith}
 use Rattle.std.proofs.lemmas.Bool.{true≢false}
 use Rattle.std.proofs.lemmas.Bool.Decides.{nat_tests}
 use Rattle.panel.specs.declared.cell.Cell.{Cell}
 use Rattle.panel.specs.Grids.{erased}
 use Rattle.picture.specs.Pictures.{foreign, first_foreign}
-
-abbrev from : ℕ → List Cell → Option ℕ
-from k xs = first_foreign k (drop k xs)
-
-abbrev chosen : Bool → ℕ → List Cell → Option ℕ
-chosen b k xs = elim b [ true ↦ Some k | false ↦ from (k + 1) xs ]
-
-opened : (k : ℕ) (xs : List Cell) → k < length xs → from k xs ≡ chosen (foreign (get_or xs k erased)) k xs
-opened k xs h = ap (first_foreign k) (drop_more xs k erased h)
-
-module _ (k : ℕ) (xs : List Cell) {v : Option ℕ} (x : Cell) (b : Bool) (e : x ≡ get_or xs k erased) (f : b ≡ foreign x) where
-  step : k < length xs → from k xs ≡ v → chosen b k xs ≡ v
-  step h q = sym (opened k xs h ∙ ap (λ c. chosen c k xs) (sym (f ∙ ap foreign e))) ∙ q
-
-  pub foreign_here : k < length xs → b ≡ true → from k xs ≡ v → Some k ≡ v
-  foreign_here h t q = sym (ap (λ c. chosen c k xs) t) ∙ step h q
-
-  pub foreign_on : k < length xs → b ≡ false → from k xs ≡ v → from (k + 1) xs ≡ v
-  foreign_on h t q = sym (ap (λ c. chosen c k xs) t) ∙ step h q
-
-pub foreign_none : (k : ℕ) (xs : List Cell) {v : Option ℕ} → length xs ≤ k → from k xs ≡ v → None ≡ v
-foreign_none k xs h q = sym (ap (first_foreign k) (drop_all k xs h)) ∙ q
 
 abbrev at : Option ℕ → ℕ
 at None = 0

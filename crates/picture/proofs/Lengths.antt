@@ -4,7 +4,7 @@ use Rattle.std.proofs.lemmas.List.{length-append}
 use Rattle.std.proofs.lemmas.Bool.{and_parts, leb-true}
 use Rattle.reader.specs.Functions.{Parameter, control, sequence}
 use Rattle.picture.specs.Writing.{digits, parameter_bytes, more_bytes, parameters_bytes, space_bytes, written}
-use Rattle.picture.specs.Writes.{is_sequence, string_bytes}
+use Rattle.picture.specs.Writes.{is_sequence}
 
 record Few (l : List ℕ) : Type 0 where
   at_most : length l ≤ 4
@@ -52,6 +52,3 @@ sequence_small ps space f h =
     let few : length ps ≤ 16 = leb-true _ _ (and_parts (leb (length ps) 16) _ h).0 in
     let a = sequence_length ps space f in
     omega arith
-
-pub string_small : (k : ℕ) (body : List ℕ) → length body < 2 ^ 63 → length (string_bytes k body) < 2 ^ 64
-string_small k body h = let e = length-append body (0x1B ∷ 0x5C ∷ []) in omega arith

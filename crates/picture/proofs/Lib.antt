@@ -8,7 +8,6 @@ pub mod Restored
 pub mod Tapes
 pub mod Digits
 pub mod Askings
-pub mod Fronts
 pub mod Lengths
 pub mod Readings
 pub mod Rewritings

@@ -5,7 +5,7 @@ use Rattle.std.proofs.lemmas.Bool.{true≢false, and_parts, leb-true, cond-true,
 use Rattle.std.proofs.lemmas.Bool.Decides.{nat_tests}
 use Rattle.reader.specs.declared.item.Kind.{Kind}
 use Rattle.reader.specs.declared.item.Kind.TheVariants.{Text, Control, Escape, Sequence, String}
-use Rattle.reader.specs.Bytes.{among, is_graphic, is_intermediate, is_opener, is_body, ends_sequence, ends_escape, AllOf, Stops}
+use Rattle.reader.specs.Bytes.{among, is_graphic, is_opener, is_body, ends_sequence, ends_escape, AllOf, Stops}
 use Rattle.reader.specs.Functions.{Parameter, Function, graphic, control, sequence}
 use Rattle.reader.specs.Steps.{Standing, rest, standing_after, performed}
 use Rattle.reader.specs.Numbers.{numbers, sequence_performs}
@@ -14,11 +14,11 @@ use Rattle.reader.specs.Items.{Form, Escaped, Sequenced, Enclosed, is_lone, is_b
 use Rattle.reader.proofs.Parts.{standing_parts, performed_parts}
 use Rattle.reader.proofs.Endings.{behind_item}
 use Rattle.reader.proofs.Grammar.{items_perform}
-use Rattle.picture.specs.Writing.{parameters_bytes, space_bytes, written}
+use Rattle.picture.specs.Writing.{space_bytes, written}
 use Rattle.picture.specs.Writable.{Small, Told, Fits}
 use Rattle.picture.specs.Writes.{is_text, is_control, is_small, is_told, is_sequence, is_string, string_bytes}
 use Rattle.picture.specs.Reads.{Performs, ReadsInARow, TextReads, ControlReads, SequenceReads, StringReads}
-use Rattle.picture.proofs.Back.{numbers_back}
+use Rattle.picture.proofs.Back.{numbers_back, spaced, sequence_form}
 
 pub reads_in_a_row : ReadsInARow
 reads_in_a_row xs ys fs gs p q = record {
@@ -113,10 +113,6 @@ fits ps f h =
     let r = and_parts (is_told ps) (ends_sequence f) q.1 in
     (record { small = all_below ps q.0; told = lone_told ps r.0; few = leb-true _ _ p.0 }, r.1)
 
-spaces : (space : Bool) → AllOf is_intermediate (space_bytes space)
-spaces true = (refl, tt)
-spaces false = tt
-
 record As (ps : List Parameter) (space : Bool) (f : ℕ) (x : List ℕ) : Type 0 where
   form : Sequenced x
   parameters : numbers form.parameters ≡ Some ps
@@ -129,25 +125,11 @@ sequence_as ps space f h =
     let q = fits ps f h in
     let n = numbers_back ps q.0 in
     record {
-      form = record {
-        csi = 0x1B ∷ 0x5B ∷ [];
-        parameters = parameters_bytes ps;
-        between = space_bytes space;
-        final = f;
-        spelled = refl;
-        opens = inr refl;
-        parameter = n.1;
-        intermediate = spaces space;
-        ends = q.1;
-      };
+      form = sequence_form ps space f q.0 q.1;
       parameters = n.0;
       between = refl;
       final = refl;
     }
-
-spaced : (ps : List Parameter) (space : Bool) (f : ℕ) → sequence_performs (Some ps) (space_bytes space) f ≡ sequence ps space f ∷ []
-spaced ps true f = refl
-spaced ps false f = refl
 
 pub sequence_reads : SequenceReads
 sequence_reads ps space f h =

@@ -25,9 +25,6 @@ then {t} {u} {v} {xs} {ys} e f = record { is = f.is ∙ ap (λ s. laid s ys) e.i
 pub being : {t u : Tape} {xs ys : List ℕ} → Lays t xs u → xs ≡ ys → Lays t ys u
 being {t} e f = record { is = e.is ∙ ap (laid t) f }
 
-pub leads_all : {t : Tape} {w : List ℕ} → Leads t w t w
-leads_all = record { is = refl }
-
 pub leads_on : {t u v : Tape} {w left xs ys : List ℕ} → Leads u left t w → left ≡ xs ++ ys → Lays u xs v → Leads v ys t w
 leads_on {t} {u} {v} {w} {left} {xs} {ys} l e s = record { is = ap (λ z. laid z ys) s.is ∙ laid_append u xs ys ∙ sym (ap (laid u) e) ∙ l.is }
 

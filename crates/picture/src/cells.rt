@@ -1,10 +1,10 @@
 // Cells that are not erased, in reading order.
-ghost use Rattle.std.specs.Prelude.{◌≡◌, ◌<◌, ◌==◌, not, true, [], ◌∷◌, None};
+ghost use Rattle.std.specs.Prelude.{◌≡◌, ◌<◌, ◌==◌, not, true};
 ghost use Rattle.control.specs.Renditions.{rendition_of};
 ghost use Rattle.picture.specs.Tape.{tape};
 ghost use Rattle.picture.specs.Draws.{Draws};
-ghost use Rattle.picture.specs.Pictures.{cells_from, when, cup, sgr, is_erased, first_foreign};
-ghost use Rattle.picture.specs.Pens.{starts, shown_functions, cell_functions, pen_after};
+ghost use Rattle.picture.specs.Pictures.{cells_from, when, sgr, is_erased};
+ghost use Rattle.picture.specs.Pens.{starts, cell_functions, pen_after};
 
 use crate::draw::Drawing;
 use crate::out::Out;

@@ -2,7 +2,7 @@
 ghost use Rattle.std.specs.Prelude.{◌≡◌, [], ◌∷◌, None};
 ghost use Rattle.picture.specs.Tape.{tape};
 ghost use Rattle.picture.specs.Draws.{Draws};
-ghost use Rattle.picture.specs.Pictures.{numbered, when, stops_drawn, ending, drawing, picture_bytes, first_foreign};
+ghost use Rattle.picture.specs.Pictures.{numbered, stops_drawn, ending, picture_bytes, first_foreign};
 ghost use Rattle.picture.specs.Views.{state_seen, sheet_seen};
 
 use crate::front::Written;

@@ -8,9 +8,8 @@ use panel::{Cell, Panel};
 fn is_foreign(cell: Cell) -> bool
     ensures { result ≡ foreign cell }
 {
-    1 <= cell.code && cell.code <= 31
-        || 127 <= cell.code && cell.code <= 159
-        || 34992 <= cell.rendition
+    matches!(cell.code, 1..=31 | 127..=159)
+        || cell.rendition >= 34992
         || cell.code == 0 && cell.rendition != 0
 }
 

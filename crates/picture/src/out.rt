@@ -8,6 +8,7 @@ pub const ESC: u8 = 0x1B;
 
 // A lent buffer and how many bytes have come. A byte past its end is counted and not kept, so that
 // the length of anything is known by putting it where there is no room.
+// No slice says both: the count stands beside the buffer because it may pass the buffer's end.
 #[derive(Drop)]
 pub struct Out<'a> {
     bytes: &'a mut [u8],

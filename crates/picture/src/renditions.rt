@@ -4,7 +4,7 @@ ghost use Rattle.std.specs.Option.{option_to_list};
 ghost use Rattle.picture.specs.Writing.{written};
 ghost use Rattle.picture.specs.Tape.{tape, Lays};
 ghost use Rattle.picture.specs.Draws.{Adds};
-ghost use Rattle.picture.specs.Renditions.{sets, sets_intensity, sets_single, sets_double, sets_blink, sets_colour, needs_of};
+ghost use Rattle.picture.specs.Renditions.{sets_intensity, sets_single, sets_double, sets_blink, sets_colour, needs_of};
 ghost use Rattle.picture.specs.Pictures.{sgr};
 
 use crate::out::{ESC, Out};

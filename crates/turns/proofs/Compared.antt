@@ -1,7 +1,6 @@
 -- The ways out of comparing two pages.
-use Rattle.std.proofs.Common.{◌≡◌, ℕ, Bool, List, length, take, IsErrAnd, Ok, Err, Decides, Result, sym, refl, ap, ◌∙◌}
-use Rattle.refusal.specs.declared.Refusal.{Refusal}
-use Rattle.refusal.specs.Table.{Answer, accepted, answer}
+use Rattle.std.proofs.Common.{◌≡◌, ℕ, Bool, List, length, take, Ok, Decides, sym, refl, ap, ◌∙◌}
+use Rattle.refusal.specs.Table.{Answer, accepted}
 use Rattle.page.specs.Plain.{Plain}
 use Rattle.page.proofs.Parts.{known_fits}
 use Rattle.picture.specs.Calls.{Does, pictures}
@@ -20,17 +19,6 @@ module _ (x y : Plain) (a b : List ℕ) where
   both : Answer (Unit {0})
   both = unless_refused (forget (pictures (length a) x).says) (forget (pictures (length b) y).says)
 
-  pub other_size : (r : Result Bool Refusal) (e : Refusal) → IsErrAnd r (λ f. f ≡ e) → answer {A = Unit {0}} (Err e) ≡ size_answer x.sheet.grid y.sheet.grid → Compares x y r a a b b
-  unfolding sizes both
-  other_size (Ok t) e h s = absurd h
-  other_size (Err f) e h s =
-      record {
-        says = ap (λ (q : Refusal). answer {A = Unit {0}} (Err q)) h ∙ ap (λ (q : Answer (Unit {0})). unless_refused q both) s;
-        decides = tt;
-        first = ap (λ (q : Answer (Unit {0})). over (only_after q (pictures (length a) x).writes) a) s;
-        second = ap (λ (q : Answer (Unit {0})). over (only_after (unless_refused q (forget (pictures (length a) x).says)) (pictures (length b) y).writes) b) s;
-      }
-
   module _ (s : accepted tt ≡ size_answer x.sheet.grid y.sheet.grid) where
     all_so_far : both ≡ unless_refused (size_answer x.sheet.grid y.sheet.grid) both
     all_so_far = ap (λ (q : Answer (Unit {0})). unless_refused q both) s
@@ -42,17 +30,6 @@ module _ (x y : Plain) (a b : List ℕ) where
         → b' ≡ over (only_after (unless_refused (size_answer x.sheet.grid y.sheet.grid) (forget (pictures (length a) x).says)) (pictures (length b) y).writes) b
     second_kept e = e ∙ ap (λ (q : Answer (Unit {0})). over (only_after (unless_refused q (forget (pictures (length a) x).says)) (pictures (length b) y).writes) b) s
 
-    pub first_refused : (r : Result Bool Refusal) (e : Refusal) (a' : List ℕ) → IsErrAnd r (λ f. f ≡ e) → Does (pictures (length a) x) (Err e) x a a' → Compares x y r a a' b b
-    unfolding both
-    first_refused (Ok t) e a' h d = absurd h
-    first_refused (Err f) e a' h d =
-        record {
-          says = ap (λ (q : Refusal). answer {A = Unit {0}} (Err q)) h ∙ ap (λ (q : Answer ℕ). unless_refused (forget q) (forget (pictures (length b) y).says)) d.says ∙ all_so_far;
-          decides = tt;
-          first = first_kept d.wrote;
-          second = second_kept (ap (λ (q : Answer ℕ). over (only_after (forget q) (pictures (length b) y).writes) b) d.says);
-        }
-
     module _ (n : ℕ) (a' : List ℕ) (d : Does (pictures (length a) x) (Ok n) x a a') where
       second_says : forget (pictures (length b) y).says ≡ unless_refused (size_answer x.sheet.grid y.sheet.grid) both
       unfolding both
@@ -60,17 +37,6 @@ module _ (x y : Plain) (a b : List ℕ) where
 
       second_writes : {b' : List ℕ} → b' ≡ over (pictures (length b) y).writes b → b' ≡ over (only_after (unless_refused (size_answer x.sheet.grid y.sheet.grid) (forget (pictures (length a) x).says)) (pictures (length b) y).writes) b
       second_writes e = second_kept (e ∙ ap (λ (q : Answer ℕ). over (only_after (forget q) (pictures (length b) y).writes) b) d.says)
-
-      pub second_refused : (r : Result Bool Refusal) (e : Refusal) (b' : List ℕ) → IsErrAnd r (λ f. f ≡ e) → Does (pictures (length b) y) (Err e) y b b' → Compares x y r a a' b b'
-      unfolding both
-      second_refused (Ok t) e b' h f = absurd h
-      second_refused (Err g) e b' h f =
-          record {
-            says = ap (λ (q : Refusal). answer {A = Unit {0}} (Err q)) h ∙ ap forget f.says ∙ second_says;
-            decides = tt;
-            first = first_kept d.wrote;
-            second = second_writes f.wrote;
-          }
 
       pub compared : (t : Bool) (m : ℕ) (b' : List ℕ) → Admitted x → Admitted y → Does (pictures (length b) y) (Ok m) y b b' → Decides t (take n a' ≡ take m b') → Compares x y (Ok t) a a' b b'
       unfolding both turn

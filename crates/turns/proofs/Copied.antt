@@ -1,5 +1,6 @@
 -- The ways out of copying a page.
-use Rattle.std.proofs.Common.{◌≡◌, ℕ, Bool, true, false, cond, eqb, List, [], ◌∷◌, length, take, IsErrAnd, Ok, Err, Result, sym, refl, ap, ◌∙◌, arith}
+use Rattle.std.proofs.Common.{◌≡◌, ℕ, Bool, true, false, cond, eqb, List, [], length, take, IsErrAnd, Ok, Err, Result, sym, refl, ap, ◌∙◌}
+use Rattle.std.proofs.lemmas.List.{nil_from_length}
 use Rattle.std.proofs.lemmas.Bool.{and_parts, eqb-true, both_ways}
 use Rattle.refusal.specs.declared.Refusal.{Refusal}
 use Rattle.refusal.specs.Table.{Answer, accepted, answer, is_accepted}
@@ -48,24 +49,7 @@ pub accepted_picture : (x : Plain) (n : ℕ) (b b' : List ℕ) → Does (picture
 unfolding turn
 accepted_picture x n b b' d = pictured x (length b) n (sym d.says)
 
-no_length : (xs : List ℕ) → length xs ≡ 0 → xs ≡ []
-no_length [] e = refl
-no_length (x ∷ xs) e = absurd (omega (arith, e))
-
 module _ (x : Plain) (y : OnPanel) (b : List ℕ) where
-  -- refused before the picture
-  pub refused_size : (r : Result ℕ Refusal) (e : Refusal) → IsErrAnd r (λ f. f ≡ e) → answer {A = Unit {0}} (Err e) ≡ size_answer x.sheet.grid y.plain.sheet.grid → Copies x y r y b b
-  refused_size (Ok n) e h a = absurd h
-  refused_size (Err f) e h a = record { says = ap (λ (q : Refusal). answer (Err q)) h ∙ ap (λ (q : Answer (Unit {0})). unless_refused q (unless_refused (takes_picture y.plain) (pictures (length b) x).says)) a; done = (refl, refl) }
-
-  pub refused_target : (r : Result ℕ Refusal) (e : Refusal) → accepted tt ≡ size_answer x.sheet.grid y.plain.sheet.grid → IsErrAnd r (λ f. f ≡ e) → answer {A = Unit {0}} (Err e) ≡ takes_picture y.plain → Copies x y r y b b
-  refused_target (Ok n) e s h a = absurd h
-  refused_target (Err f) e s h a =
-      record {
-        says = ap (λ (q : Refusal). answer (Err q)) h ∙ ap (λ (q : Answer (Unit {0})). unless_refused q (pictures (length b) x).says) a ∙ ap (λ (q : Answer (Unit {0})). unless_refused q (unless_refused (takes_picture y.plain) (pictures (length b) x).says)) s;
-        done = (refl, refl);
-      }
-
   module _ (s : accepted tt ≡ size_answer x.sheet.grid y.plain.sheet.grid) (t : accepted tt ≡ takes_picture y.plain) where
     goes_on : (pictures (length b) x).says ≡ copy_answer x y.plain (length b)
     goes_on =
@@ -76,7 +60,7 @@ module _ (x : Plain) (y : OnPanel) (b : List ℕ) where
     pub refused_picture : (r : Result ℕ Refusal) (e : Refusal) (b' : List ℕ) → IsErrAnd r (λ f. f ≡ e) → Does (pictures (length b) x) (Err e) x b b' → Copies x y r y b b'
     refused_picture (Ok n) e b' h d = absurd h
     refused_picture (Err f) e b' h d =
-        let none : (pictures (length b) x).writes ≡ [] = no_length (pictures (length b) x).writes (sym (pictures_counted (length b) x).counts ∙ ap count_of (sym d.says)) in
+        let none : (pictures (length b) x).writes ≡ [] = nil_from_length (pictures (length b) x).writes (sym (pictures_counted (length b) x).counts ∙ ap count_of (sym d.says)) in
         record { says = ap (λ (q : Refusal). answer (Err q)) h ∙ d.says ∙ goes_on; done = (refl, d.wrote ∙ ap (λ (l : List ℕ). over l b) none) }
 
     -- a picture that was accepted: its bytes, at the buffer's front, are taken entire and make the page equal

@@ -1,6 +1,7 @@
 -- Bytes that request no reply, delivered in parts; and what a picture's answer tells.
-use Rattle.std.proofs.Common.{◌≡◌, ℕ, suc, ◌≤◌, Bool, true, false, cond, ◌||◌, List, [], ◌∷◌, ◌++◌, length, is_some, sym, refl, ap, ◌∙◌, ⊎_elim, arith}
+use Rattle.std.proofs.Common.{◌≡◌, ℕ, suc, ◌≤◌, Bool, true, false, ◌||◌, List, [], ◌∷◌, ◌++◌, length, is_some, sym, refl, ap, ◌∙◌, ⊎_elim, arith}
 use Rattle.std.proofs.lemmas.List.{take_all}
+use Rattle.std.proofs.lemmas.Bool.{or_parts}
 use Rattle.reader.specs.Functions.{Function}
 use Rattle.reader.specs.Steps.{Standing, step, standing_after, performed}
 use Rattle.reader.specs.Requests.{requests, any_requests, until_request}
@@ -24,14 +25,6 @@ use Rattle.turns.proofs.Restoring.{run_append}
 -- a function that requests nothing
 Silent : Function → Type 0
 Silent f = requests f ≡ false
-
-or_left : (a b : Bool) → (a || b) ≡ false → a ≡ false
-or_left true b e = e
-or_left false b e = refl
-
-or_right : (a b : Bool) → (a || b) ≡ false → b ≡ false
-or_right true b e = absurd (let z : ◌≡◌ {A = ℕ} 1 0 = ap (λ (t : Bool). cond t 1 0) e in omega arith)
-or_right false b e = e
 
 none_requests : (fs : List Function) → Each Silent fs → any_requests fs ≡ false
 unfolding Silent
@@ -59,7 +52,7 @@ unfolding until_request
 quiet_all s [] e = refl
 quiet_all s (b ∷ bs) e =
     let both = sym (any_append (step s b).performs (performed (step s b).standing bs)) ∙ e in
-    request_later s b bs (or_left _ _ both) ∙ ap suc (quiet_all (step s b).standing bs (or_right (any_requests (step s b).performs) _ both))
+    request_later s b bs (or_parts _ _ both).0 ∙ ap suc (quiet_all (step s b).standing bs (or_parts (any_requests (step s b).performs) _ both).1)
 
 after_append : (x : Plain) (xs ys : List ℕ) → after_bytes x (xs ++ ys) ≡ after_bytes (after_bytes x xs) ys
 after_append x xs ys = ap (λ (y : Sheet). record { started = x.started; sheet = y }) (run_append x.sheet xs ys)
@@ -76,7 +69,7 @@ run_free x [] f e = f
 run_free x (b ∷ bs) f e =
     let s = x.state.standing in
     let both = sym (any_append (step s b).performs (performed (step s b).standing bs)) ∙ e in
-    run_free (stepped x b) bs (stepped_owes x b f ∙ or_left _ _ both) (ap (λ (q : Standing). any_requests (performed q bs)) (stepped_standing x b) ∙ or_right (any_requests (step s b).performs) _ both)
+    run_free (stepped x b) bs (stepped_owes x b f ∙ (or_parts _ _ both).0) (ap (λ (q : Standing). any_requests (performed q bs)) (stepped_standing x b) ∙ (or_parts (any_requests (step s b).performs) _ both).1)
 
 -- some of the bytes delivered, and the rest still to come
 pub record Sending (was here : OnPanel) (bs rest_of : List ℕ) : Type 0 where
@@ -94,12 +87,12 @@ sent {was} {here} {bs} {rest_of} g front back after cut few e =
     let x = here.plain in
     let s = x.sheet.state.standing in
     let parts = sym (any_append (performed s front) (performed (standing_after s front) back)) ∙ ap any_requests (sym (performed_parts s front back)) ∙ ap (λ (l : List ℕ). any_requests (performed s l)) (sym cut) ∙ g.quiet in
-    let front_quiet = or_left _ _ parts in
+    let front_quiet = (or_parts _ _ parts).0 in
     let is : after.plain ≡ after_bytes x front = ap (λ (o : OnPanel). o.plain) e ∙ delivered_quiet x front g.knows few g.free front_quiet in
     record {
       knows = ap known is ∙ after_known x front g.knows;
       free = ap owes is ∙ run_free x.sheet front g.free front_quiet;
-      quiet = ap (λ (p : Plain). any_requests (performed p.sheet.state.standing back)) is ∙ ap (λ (q : Standing). any_requests (performed q back)) (run_standing x.sheet front) ∙ or_right (any_requests (performed s front)) _ parts;
+      quiet = ap (λ (p : Plain). any_requests (performed p.sheet.state.standing back)) is ∙ ap (λ (q : Standing). any_requests (performed q back)) (run_standing x.sheet front) ∙ (or_parts (any_requests (performed s front)) _ parts).1;
       left = ap (λ (p : Plain). after_bytes p back) is ∙ sym (after_append x front back) ∙ ap (after_bytes x) (sym cut) ∙ g.left;
       beyond = ap (λ (o : OnPanel). o.beyond) e ∙ g.beyond;
     }

@@ -1,5 +1,4 @@
 // Whether two pages are equal, over any two kinds of panel.
-ghost use Rattle.std.specs.Prelude.{◌≡◌, ◌≤◌, length, take, Decides};
 ghost use Rattle.page.specs.Plain.{plain};
 ghost use Rattle.turns.specs.Copying.{Compares};
 ghost use Rattle.turns.specs.Laws.{PicturesTellPages};

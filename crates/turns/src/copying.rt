@@ -1,8 +1,6 @@
 // A page made equal to another, over any two kinds of panel.
-ghost use Rattle.std.specs.Prelude.{◌≡◌, ◌≤◌, true, false, length, take};
+ghost use Rattle.std.specs.Prelude.{◌≡◌, true, false};
 ghost use Rattle.refusal.specs.Table.{answer};
-ghost use Rattle.reader.specs.Laws.{is_in_sos};
-ghost use Rattle.reader.specs.Meaning.{standing_of};
 ghost use Rattle.reader.specs.Requests.{any_requests};
 ghost use Rattle.reader.specs.Steps.{performed};
 ghost use Rattle.page.specs.Plain.{plain, on_panel, known, owes, after_bytes, leaves};
@@ -46,10 +44,8 @@ fn view_takes_picture<P: Panel>(view: &View, panel: &P) -> Result<(), Refusal>
 fn takes_picture<P: Panel>(page: &Page, panel: &P) -> Result<(), Refusal>
     ensures { answer result ≡ takes_picture (plain page.now (P.Panel.shows panel.now).grid) }
 {
-    match page.view() {
-        Some(view) => view_takes_picture(&view, panel),
-        None => Err(Refusal::OtherPanel),
-    }
+    let view = page.view().ok_or(Refusal::OtherPanel)?;
+    view_takes_picture(&view, panel)
 }
 
 // What every page and panel have: a view of the page tells it.

@@ -1,7 +1,6 @@
 // A list of turns on a page and its panel.
-ghost use Rattle.std.specs.Prelude.{◌≡◌, ℕ, ◌+◌, ◌≤◌, List, map, length, vec_len, vec_capacity, MatchResult};
+ghost use Rattle.std.specs.Prelude.{◌≡◌, ℕ, List, map, MatchResult};
 ghost use Rattle.page.specs.Plain.{plain, on_panel};
-ghost use Rattle.picture.specs.Calls.{replies, pictures};
 ghost use Rattle.turns.specs.Turns.{turn, deliver};
 ghost use Rattle.turns.specs.Running.{meant, Did, Ran, SomeRan};
 ghost use Rattle.turns.specs.Cases.{CasesHold};

@@ -1,5 +1,5 @@
 // Lists of turns on two pages, over any two kinds of panel.
-ghost use Rattle.std.specs.Prelude.{◌≡◌, map, MatchResult};
+ghost use Rattle.std.specs.Prelude.{map, MatchResult};
 ghost use Rattle.page.specs.Plain.{on_panel};
 ghost use Rattle.turns.specs.Running.{meant, Ran, SomeRan, Agree};
 ghost use Rattle.turns.specs.Laws.{SameBytesSamePage};

@@ -10,15 +10,12 @@ use Rattle.picture.proofs.Draws.{draws_none, draws_one, draws_both, draws_as, dr
 use Rattle.picture.proofs.cells.put_cell.Goals as goal
 use Rattle.picture.proofs.cells.put_cell.Goals.{then-is_start, else-is_start}
 
-pub returns-then-is_erased : goal.returns-then-is_erased
-returns-then-is_erased c = record {
-  lays = draws_as draws_none (sym (cond-true _ _ _ (sym c.if-is_erased.ensures)));
-  pen = sym (cond-true _ _ _ (sym c.if-is_erased.ensures));
-}
+pub returns-then-is_erased-clause-lays : goal.returns-then-is_erased-clause-lays
+returns-then-is_erased-clause-lays c = draws_as draws_none (sym (cond-true _ _ _ (sym c.if-is_erased.ensures)))
 
-pub returns : goal.returns
+pub returns-clause-lays : goal.returns-clause-lays
 unfolding written
-returns c =
+returns-clause-lays c =
     let place = λ (b : Bool). when b (cup c.args.at.line c.args.at.column) in
     let placed : Draws (tape c.args.out.now) (place (starts c.args.pen c.args.at.column)) (tape c.if-is_start.out) =
     elim c.if-is_start.branch [
@@ -26,7 +23,4 @@ returns c =
       | else-is_start w ↦ draws_by place (sym w.if-is_start.ensures) (ap tape w.out-is) draws_none
     ]
     in
-    record {
-      lays = draws_as (draws_both placed (draws_both c.put_rendition.ensures (draws_one (graphic c.args.cell.code) c.put.ensures))) (sym (cond-false _ _ _ (sym c.if-is_erased.ensures)));
-      pen = sym (cond-false _ _ _ (sym c.if-is_erased.ensures));
-    }
+    draws_as (draws_both placed (draws_both c.put_rendition.ensures (draws_one (graphic c.args.cell.code) c.put.ensures))) (sym (cond-false _ _ _ (sym c.if-is_erased.ensures)))

@@ -1,13 +1,14 @@
-use Rattle.std.proofs.Common.{sym, arith}
-use Rattle.picture.proofs.Fronts.{out_of_range, in_range}
 use Rattle.picture.proofs.Readings.{reads_in_a_row, text_reads}
 use Rattle.picture.proofs.writer.write_text.Goals as goal
 
-pub returns-then-not-is_text : goal.returns-then-not-is_text
-returns-then-not-is_text c = record { writes = out_of_range _ _ _ (sym c.if-not-is_text.ensures); reads = text_reads; row = reads_in_a_row }
+pub returns-then-not-is_text-clause-reads : goal.returns-then-not-is_text-clause-reads
+returns-then-not-is_text-clause-reads c = text_reads
 
-pub write_front-requires : goal.write_front-requires
-write_front-requires c = (omega arith)
+pub returns-then-not-is_text-clause-row : goal.returns-then-not-is_text-clause-row
+returns-then-not-is_text-clause-row c = reads_in_a_row
 
-pub returns : goal.returns
-returns c = record { writes = in_range _ _ (sym c.if-not-is_text.ensures) c.write_front.ensures; reads = text_reads; row = reads_in_a_row }
+pub returns-clause-reads : goal.returns-clause-reads
+returns-clause-reads c = text_reads
+
+pub returns-clause-row : goal.returns-clause-row
+returns-clause-row c = reads_in_a_row

@@ -1,13 +1,13 @@
 use Rattle.page.specs.Plain.{plain, on_panel}
 use Rattle.turns.proofs.Restoring.{picture_restores}
-use Rattle.turns.proofs.Copied.{refused_size, refused_target, refused_picture, front_silent, copied}
+use Rattle.turns.proofs.Copied.{refused_picture, front_silent, copied}
 use Rattle.turns.proofs.copying.copy_page.Goals as goal
 
-pub returns-in_err-of_one_size : goal.returns-in_err-of_one_size
-returns-in_err-of_one_size g c = record { copies = refused_size _ _ c.args.buffer.now c.from_residual.result c.in_err-of_one_size.field-0.0 c.from_residual.ensures.1 c.in_err-of_one_size.ensures; restores = picture_restores }
+pub returns-in_err-of_one_size-clause-restores : goal.returns-in_err-of_one_size-clause-restores
+returns-in_err-of_one_size-clause-restores g c = picture_restores
 
-pub returns-in_err-takes_picture : goal.returns-in_err-takes_picture
-returns-in_err-takes_picture g c = record { copies = refused_target _ _ c.args.buffer.now c.from_residual-in_err-takes_picture.result c.in_err-takes_picture.field-0.0 c.in_ok-of_one_size.ensures c.from_residual-in_err-takes_picture.ensures.1 c.in_err-takes_picture.ensures; restores = picture_restores }
+pub returns-in_err-takes_picture-clause-restores : goal.returns-in_err-takes_picture-clause-restores
+returns-in_err-takes_picture-clause-restores g c = picture_restores
 
 pub returns-in_err-n : goal.returns-in_err-n
 returns-in_err-n g c =

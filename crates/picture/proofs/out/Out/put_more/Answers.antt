@@ -1,11 +1,8 @@
 use Rattle.std.proofs.Common.{ap}
 use Rattle.std.proofs.lemmas.List.{drop_more, drop_all}
 use Rattle.picture.specs.Writing.{more_bytes}
-use Rattle.picture.proofs.Tapes.{leads_all, leads_on, leads_end, then}
+use Rattle.picture.proofs.Tapes.{leads_on, leads_end, then}
 use Rattle.picture.proofs.out.Out.put_more.Goals as goal
-
-pub loop-p-init : goal.loop-p-init
-loop-p-init c = leads_all
 
 pub loop-p-preserved : goal.loop-p-preserved
 loop-p-preserved c = leads_on c.loop-p.invariant (ap more_bytes (drop_more _ _ _ c.loop-p-test.true)) (then c.put.ensures c.put_parameter.ensures)
