@@ -3,6 +3,7 @@ ghost use Rattle.std.specs.Prelude.{◌≡◌, ◌+◌, ◌*◌, ◌≤◌};
 ghost use Rattle.panel.specs.Grids.{InLine};
 ghost use Rattle.panel.specs.Screens.{Screen, Sound, wipe_on};
 
+// Not a trait above `Panel`, and so with its own word for what is shown: the calls of `Panel` go through it, a circle of calls.
 pub(crate) trait Lines {
     // What the panel shows, which is sound.
     ghost seen: { Self → Screen };

@@ -1,8 +1,7 @@
 // The module panel: bytes that are lent, in three planes: codes, low rendition bytes, high rendition bytes.
 // In each plane the odd lines come first, then the even ones.
-ghost use Rattle.std.specs.Prelude.{◌≡◌, ℕ, ◌+◌, ◌-◌, ◌*◌, ◌/◌, ◌%◌, ◌<◌, ◌≤◌, length};
-ghost use Rattle.panel.specs.Screens.{put_on, wipe_on};
-ghost use Rattle.panel.specs.Grids.{InLine, erased};
+ghost use Rattle.std.specs.Prelude.{◌≡◌, ◌+◌, ◌*◌, ◌<◌, ◌≤◌, length};
+ghost use Rattle.panel.specs.Screens.{put_on};
 
 use crate::lines::Lines;
 use crate::planes::{gather, plane_row, scatter};

@@ -2,7 +2,7 @@
 //
 // Line by line, the cells that stay in the rectangle are copied, and the part that comes in is erased.
 // Up and left go from the first line on, down and right from the last one, so that no cell is written before it is read.
-ghost use Rattle.std.specs.Prelude.{◌≡◌, ℕ, ◌+◌, ◌-◌, ◌*◌, ◌<◌, ◌≤◌, ◌^◌};
+ghost use Rattle.std.specs.Prelude.{◌≡◌, ◌+◌, ◌<◌, ◌≤◌, ◌^◌};
 ghost use Rattle.refusal.specs.Table.{answer};
 ghost use Rattle.panel.specs.Grids.{index, done_if};
 ghost use Rattle.panel.specs.Screens.{with_grid, wipe_on};

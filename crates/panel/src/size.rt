@@ -1,5 +1,5 @@
 // A size, the lines and columns within it, and the index of each in reading order: how many cells come before it.
-ghost use Rattle.std.specs.Prelude.{◌≡◌, ℕ, ◌+◌, ◌-◌, ◌*◌, ◌<◌, ◌≤◌, if◌then◌else◌};
+ghost use Rattle.std.specs.Prelude.{◌≡◌, ◌*◌, if◌then◌else◌};
 ghost use Rattle.panel.specs.Grids.{within, no_grid, size_of};
 ghost use Rattle.panel.specs.Copies.{part_within};
 ghost use Rattle.panel.specs.Places.{located, run_located};

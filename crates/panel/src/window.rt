@@ -1,7 +1,5 @@
 // The window: a panel that shows a rectangle of the panel below.
-ghost use Rattle.std.specs.Prelude.{◌≡◌, ℕ, ◌+◌, ◌-◌, ◌*◌, ◌%◌, ◌<◌, ◌≤◌};
-ghost use Rattle.panel.specs.Grids.{size_of, InLine};
-ghost use Rattle.panel.specs.Screens.{wipe_on};
+ghost use Rattle.std.specs.Prelude.{◌≡◌};
 ghost use Rattle.panel.specs.Rectangles.{framed};
 ghost use Rattle.panel.specs.Windows.{windowed, windowed_sound, part_beneath};
 
