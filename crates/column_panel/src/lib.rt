@@ -6,24 +6,30 @@
 
 #![tactic(auto)]
 
-ghost use Rattle.std.specs.Prelude.{◌≡◌, ◌+◌, ◌*◌, ◌<◌, ◌≤◌, length};
+ghost use Rattle.std.specs.Prelude.{◌≡◌, ◌+◌, ◌*◌, ◌^◌, ◌<◌, ◌≤◌, length};
 ghost use Rattle.panel.specs.Screens.{put_on, wipe_on};
-ghost use Rattle.column_panel.specs.Columned.{stored_at, columned, column_shows, column_sound};
 
 use panel::{Cell, ERASED, Panel, Position, Size};
 use refusal::Refusal;
 
+// The memory has room for all cells: that is part of the type.
 #[derive(Drop)]
 pub struct ColumnPanel<'a> {
     cells: &'a mut [Cell],
     size: Size,
+    ghost tall: { size.lines < 2 ^ 16 },
+    ghost wide: { size.columns < 2 ^ 16 },
+    ghost room: { size.lines * size.columns ≤ length cells.now },
 }
 
 impl<'a> ColumnPanel<'a> {
+    ghost use Rattle.column_panel.specs.Columned.{stored_at, columned, column_shows};
+
     // A panel on memory that is lent. Memory too short for the size makes a panel with no lines and no columns.
     pub fn new(cells: &'a mut [Cell], size: Size) -> ColumnPanel<'a>
         ensures { column_shows result ≡ columned cells.entry.ghost_name size.lines size.columns cells.old }
     {
+        let size = size.if_room(cells.len());
         ColumnPanel { cells, size }
     }
 
@@ -59,27 +65,29 @@ impl<'a> ColumnPanel<'a> {
 }
 
 impl Panel for ColumnPanel<'_> {
+    ghost use Rattle.column_panel.specs.Columned.{column_shows, column_sound};
+
     ghost shows = { column_shows };
 
     ghost sound = { column_sound };
 
     fn size(&self) -> Size {
-        self.size.if_room(self.cells.len())
+        self.size
     }
 
     fn cell(&self, at: Position) -> Result<Cell, Refusal> {
-        let k = self.size().find(at).ok_or(at.outside())?;
+        let k = self.size.find(at).ok_or(at.outside())?;
         Ok(self.cells[self.stored(k)])
     }
 
     fn set(&mut self, at: Position, cell: Cell) -> Result<(), Refusal> {
-        let k = self.size().find(at).ok_or(at.outside())?;
+        let k = self.size.find(at).ok_or(at.outside())?;
         self.put(k, cell);
         Ok(())
     }
 
     fn erase(&mut self, from: Position, count: usize) -> Result<(), Refusal> {
-        let k = self.size().find_run(from, count).ok_or(from.outside())?;
+        let k = self.size.find_run(from, count).ok_or(from.outside())?;
         self.erase_from(k, count);
         Ok(())
     }

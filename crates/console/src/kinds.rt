@@ -40,10 +40,6 @@ pub(crate) fn is_page_size(size: Size) -> bool {
     matches!((size.lines, size.columns), (1..=64, 1..=132))
 }
 
-pub(crate) fn cells(size: Size) -> usize {
-    size.lines as usize * size.columns as usize
-}
-
 // What is done on a panel, whatever its kind.
 pub trait OnPanel {
     fn run<P: Panel>(&self, rt: &HostRuntime, panel: &mut P) -> Result<(), Failure>;
@@ -69,7 +65,7 @@ pub(crate) fn on_list<T: OnPanel>(
     size: Size,
     what: &T,
 ) -> Result<Vec<Cell>, Failure> {
-    let mut memory = vec![in rt.alloc(); ERASED; cells(size)]?;
+    let mut memory = vec![in rt.alloc(); ERASED; size.cells()]?;
     let mut panel = ListPanel::new(memory.as_mut_slice(), size);
     what.run(rt, &mut panel)?;
     Ok(memory)
@@ -81,7 +77,7 @@ pub(crate) fn on_module<T: OnPanel>(
     size: Size,
     what: &T,
 ) -> Result<Vec<u8>, Failure> {
-    let mut memory = vec![in rt.alloc(); 0; cells(size).saturating_mul(3)]?;
+    let mut memory = vec![in rt.alloc(); 0; size.cells().saturating_mul(3)]?;
     let mut panel = ModulePanel::new(memory.as_mut_slice(), size);
     what.run(rt, &mut panel)?;
     Ok(memory)

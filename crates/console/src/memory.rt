@@ -2,7 +2,6 @@
 ghost use Rattle.std.specs.Prelude.{◌<◌};
 
 use crate::call::Failure;
-use crate::kinds;
 use panel::{Cell, Size};
 
 // The memory of more cells is not printed, only counted.
@@ -32,13 +31,13 @@ pub(crate) fn print_cells(rt: &HostRuntime, size: Size, cells: &[Cell]) -> Resul
 
 pub(crate) fn print_planes(rt: &HostRuntime, size: Size, bytes: &[u8]) -> Result<(), Failure> {
     let count = bytes.len();
-    if kinds::cells(size) > MOST_CELLS {
+    if size.cells() > MOST_CELLS {
         println!(rt; "Memory: {count} bytes, too many to be printed")?;
         return Ok(());
     }
     println!(rt; "Memory: {count} bytes, in three planes")?;
     let names = ["codes", "low", "high"];
-    for (name, plane) in names.iter().zip(bytes.chunks(kinds::cells(size).max(1))) {
+    for (name, plane) in names.iter().zip(bytes.chunks(size.cells().max(1))) {
         println!(rt; "{name}")?;
         print_plane(rt, size, plane)?;
     }

@@ -1,7 +1,7 @@
 // Erasures: ED, EL and ECH. Each is one run of cells.
 ghost use Rattle.std.specs.Prelude.{◌≡◌, ℕ, ◌+◌, ◌-◌, ◌*◌, ◌≤◌};
 ghost use Rattle.page.specs.Sheets.{state_of, placed, upon};
-ghost use Rattle.page.specs.Cells.{here, cells_in, to_edge, erase_in_page, erase_in_line, erase_characters};
+ghost use Rattle.page.specs.Cells.{here, to_edge, erase_in_page, erase_in_line, erase_characters};
 
 use crate::sheet::Sheet;
 use crate::state::State;
@@ -15,12 +15,6 @@ impl State {
     {
         let Position { line, column } = self.position;
         (line as usize - 1) * self.size.columns as usize + (column as usize - 1)
-    }
-
-    fn cells(&self) -> usize
-        ensures { result ≡ cells_in (state_of self.now) }
-    {
-        self.size.lines as usize * self.size.columns as usize
     }
 
     // The columns from the active one to the edge.
@@ -38,9 +32,9 @@ impl<P: Panel> Sheet<P> {
         let state = &self.state;
         let start = Position { line: 1, column: 1 };
         let _ = match extent {
-            Extent::ToEnd => self.panel.erase(state.position, state.cells() - state.here()),
+            Extent::ToEnd => self.panel.erase(state.position, state.size.cells() - state.here()),
             Extent::FromStart => self.panel.erase(start, state.here() + 1),
-            Extent::All => self.panel.erase(start, state.cells()),
+            Extent::All => self.panel.erase(start, state.size.cells()),
         };
     }
 

@@ -10,7 +10,7 @@ pub fn clear<P: Panel>(panel: &mut P)
 {
     let size = panel.size();
     let first = Position { line: 1, column: 1 };
-    let _ = panel.erase(first, size.count());
+    let _ = panel.erase(first, size.cells());
 }
 
 // Erases the cells of a list panel of this size on the memory given. Nothing past them is changed, and nothing at all if the

@@ -55,7 +55,7 @@ impl<'a> ModulePanel<'a> {
         ensures { module_shows self.new ≡ put_on (module_shows self.old) (line * (module_shows self.old).grid.columns + column) cell }
     {
         let at = self.stored(line, column);
-        scatter(self.bytes, self.size.count(), at, cell);
+        scatter(self.bytes, self.size.cells(), at, cell);
     }
 }
 
@@ -94,7 +94,7 @@ impl Panel for ModulePanel<'_> {
     fn cell(&self, at: Position) -> Result<Cell, Refusal> {
         if self.size.has(at) {
             let k = self.stored(at.line as usize - 1, at.column as usize - 1);
-            Ok(gather(self.bytes, self.size.count(), k))
+            Ok(gather(self.bytes, self.size.cells(), k))
         } else {
             Err(at.outside())
         }

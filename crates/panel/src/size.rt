@@ -26,7 +26,7 @@ const MOST_COLUMNS: u16 = 132;
 
 impl Size {
     // How many cells there are.
-    pub(crate) fn count(self) -> usize
+    pub fn cells(self) -> usize
         ensures { result ≡ self.lines * self.columns }
     {
         self.lines as usize * self.columns as usize
@@ -56,7 +56,7 @@ impl Size {
         ensures { result ≡ run_located self from.line from.column count }
     {
         let k = self.find(from)?;
-        (count <= self.count() - k).then_some(k)
+        (count <= self.cells() - k).then_some(k)
     }
 
     // Whether some cells of a line, and the place where they begin, are within the size.
@@ -75,7 +75,7 @@ impl Size {
             && self.lines <= MOST_LINES
             && 1 <= self.columns
             && self.columns <= MOST_COLUMNS
-            && self.count() <= room
+            && self.cells() <= room
         {
             self
         } else {
@@ -87,6 +87,6 @@ impl Size {
     pub fn if_room(self, room: usize) -> Size
         ensures { result ≡ (if roomy self room then self else size_of no_grid) }
     {
-        if self.count() <= room { self } else { NO_SIZE }
+        if self.cells() <= room { self } else { NO_SIZE }
     }
 }

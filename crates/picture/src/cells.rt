@@ -8,7 +8,7 @@ ghost use Rattle.picture.specs.Pens.{starts, cell_functions, pen_after};
 
 use crate::draw::Drawing;
 use crate::out::Out;
-use crate::places::{cell_of, count_cells, position_at};
+use crate::places::cell_on;
 use crate::renditions::put_sgr;
 use crate::stops::put_cup;
 use control::rendition::Rendition;
@@ -75,10 +75,8 @@ impl<P: Panel> Drawing<'_, '_, P> {
             gap: true,
             rendition: 0,
         };
-        for k in 0..count_cells(self.panel) {
-            let at = position_at(self.panel, k);
-            let cell = cell_of(self.panel, k);
-            pen = put_cell(out, pen, cell, at);
+        for at in self.panel.size().positions() {
+            pen = put_cell(out, pen, cell_on(self.panel, at), at);
         }
     }
 }

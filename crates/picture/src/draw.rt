@@ -10,7 +10,7 @@ use crate::out::{ESC, Out};
 use crate::renditions::put_sgr;
 use crate::stops::{Along, put_cup, put_stops};
 use page::view::View;
-use panel::{Panel, Position};
+use panel::Panel;
 
 fn put_one(out: &mut Out, n: u16, final_byte: u8)
     ensures { Draws (tape out.old) (numbered (n ∷ []) final_byte ∷ []) (tape out.new) }
@@ -59,11 +59,7 @@ impl<P: Panel> Drawing<'_, '_, P> {
             put_one(out, 21, b'h');
         }
         put_sgr(out, self.view.rendition);
-        let at = Position {
-            line: self.view.position.line,
-            column: self.view.position.column,
-        };
-        put_cup(out, at);
+        put_cup(out, self.view.position);
     }
 }
 

@@ -1,9 +1,11 @@
 // The first cell that no bytes could have put there.
 ghost use Rattle.std.specs.Prelude.{◌≡◌};
+ghost use Rattle.std.specs.Option.{option_map};
+ghost use Rattle.picture.specs.Pens.{position_of};
 ghost use Rattle.picture.specs.Pictures.{foreign, first_foreign};
 
-use crate::places::{cell_of, count_cells};
-use panel::{Cell, Panel};
+use crate::places::cell_on;
+use panel::{Cell, Panel, Position};
 
 fn is_foreign(cell: Cell) -> bool
     ensures { result ≡ foreign cell }
@@ -13,14 +15,13 @@ fn is_foreign(cell: Cell) -> bool
         || cell.code == 0 && cell.rendition != 0
 }
 
-// Its index in reading order.
-pub(crate) fn find_foreign<P: Panel>(panel: &P) -> Option<usize>
-    ensures { result ≡ first_foreign 0 (P.Panel.shows panel.now).grid.cells }
+// Where it is.
+pub(crate) fn find_foreign<P: Panel>(panel: &P) -> Option<Position>
+    ensures { result ≡ option_map (position_of (P.Panel.shows panel.now).grid) (first_foreign 0 (P.Panel.shows panel.now).grid.cells) }
 {
-    for k in 0..count_cells(panel) {
-        let cell = cell_of(panel, k);
-        if is_foreign(cell) {
-            return Some(k);
+    for at in panel.size().positions() {
+        if is_foreign(cell_on(panel, at)) {
+            return Some(at);
         }
     }
     None

@@ -7,7 +7,6 @@ ghost use Rattle.picture.specs.Calls.{Does, draws, pictures};
 use crate::draw::Drawing;
 use crate::foreign::find_foreign;
 use crate::front::write_front;
-use crate::places::position_at;
 use page::page::Page;
 use page::view::View;
 use panel::{Panel, Position};
@@ -19,8 +18,7 @@ fn draw<P: Panel>(view: &View, panel: &P, buffer: &mut [u8]) -> Result<usize, Re
     requires { is_of_size view.now (P.Panel.shows panel.now).grid ≡ true }
     ensures { Does (draws (length buffer.old) (seen view.now (P.Panel.shows panel.now).grid)) result (seen view.now (P.Panel.shows panel.now).grid) buffer.old buffer.new }
 {
-    if let Some(k) = find_foreign(panel) {
-        let Position { line, column } = position_at(panel, k);
+    if let Some(Position { line, column }) = find_foreign(panel) {
         return Err(Refusal::ForeignCell { line, column });
     }
     write_front(&Drawing { view, panel }, buffer)

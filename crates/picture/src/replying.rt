@@ -39,11 +39,11 @@ fn write_reply(view: &View, buffer: &mut [u8]) -> Result<usize, Refusal>
     ensures { Replies (state_seen view.now) result buffer.old buffer.new }
 {
     let report = view.owed.ok_or(Refusal::NothingOwed)?;
-    let at = Position {
-        line: view.position.line,
-        column: view.position.column,
+    let response = Response {
+        report,
+        at: view.position,
     };
-    write_front(&Response { report, at }, buffer)
+    write_front(&response, buffer)
 }
 
 // Writes the reply that is owed, whatever panel the page is on; then nothing is owed.

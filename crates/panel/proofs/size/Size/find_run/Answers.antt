@@ -5,10 +5,10 @@ use Rattle.panel.proofs.size.Size.find_run.Goals as goal
 
 pub overflow_sub-count : goal.overflow_sub-count
 overflow_sub-count c =
-    let l = found_low c.args.self c.args.from.line c.args.from.column c.in_ok-k.k (sym c.in_ok-k.was ∙ c.find.ensures) in omega (arith, c.count.ensures)
+    let l = found_low c.args.self c.args.from.line c.args.from.column c.in_ok-k.k (sym c.in_ok-k.was ∙ c.find.ensures) in omega (arith, c.cells.ensures)
 
 pub returns : goal.returns
 returns c =
     let k = c.in_ok-k.k in
-    c.then_some.ensures ∙ ap (λ n. then_some (leb c.args.count (n - k)) k) c.count.ensures
+    c.then_some.ensures ∙ ap (λ n. then_some (leb c.args.count (n - k)) k) c.cells.ensures
     ∙ run_found c.args.self c.args.from.line c.args.from.column c.args.count k (sym c.in_ok-k.was ∙ c.find.ensures)
