@@ -3,8 +3,8 @@ use Rattle.std.specs.Bool.{then_some}
 use Rattle.panel.proofs.Places.{run_found, found_low}
 use Rattle.panel.proofs.size.Size.find_run.Goals as goal
 
-pub overflow_sub-count : goal.overflow_sub-count
-overflow_sub-count c =
+pub overflow_sub-cells : goal.overflow_sub-cells
+overflow_sub-cells c =
     let l = found_low c.args.self c.args.from.line c.args.from.column c.in_ok-k.k (sym c.in_ok-k.was ∙ c.find.ensures) in omega (arith, c.cells.ensures)
 
 pub returns : goal.returns
