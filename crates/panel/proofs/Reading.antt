@@ -1,14 +1,15 @@
 -- Positions in reading order: each is at the place of its cell, and the next one follows it.
-use Rattle.std.proofs.Common.{◌≡◌, ℕ, suc, ◌+◌, ◌-◌, ◌*◌, ◌/◌, ◌%◌, ◌<◌, ◌≤◌, true, false, ◌∷◌, length, get_or, drop, sym, ap, ◌∙◌, ⊎_elim, add-one, arith}
+use Rattle.std.proofs.Common.{◌≡◌, ℕ, suc, ◌+◌, ◌-◌, ◌*◌, ◌/◌, ◌%◌, ◌<◌, ◌≤◌, true, false, [], ◌∷◌, length, get_or, drop, sym, ap, ◌∙◌, ⊎_elim, add-one, arith}
 use Rattle.std.proofs.Math.Seq.{drop-cons}
 use Rattle.std.proofs.lemmas.Nat.{div-mul-add, mod-mul-add, div_below, mod_below, div-add-mod', mul-le}
 use Rattle.std.proofs.lemmas.Bool.{cases_Bool, cases_lt, cond-true, cond-false}
-use Rattle.std.proofs.lemmas.List.{drop_all}
+use Rattle.std.proofs.lemmas.List.{drop_all, drop_more, length-drop}
 use Rattle.std.proofs.lemmas.List.FromFn.{length-map-range_with_len, get_or-map-range_with_len}
 use Rattle.panel.specs.declared.cell.Position.{Position}
+use Rattle.panel.specs.declared.positions.Positions.{Positions}
 use Rattle.panel.specs.declared.size.Size.{Size}
 use Rattle.panel.specs.Grids.{within, index_in}
-use Rattle.panel.specs.Reading.{position_at, positions_of, positions_from}
+use Rattle.panel.specs.Reading.{position_at, positions_of, positions_from, positions_left}
 use Rattle.panel.proofs.Places.{Within, within_true, true_within, index_lt, columns_some}
 
 pub length_positions : (z : Size) → length (positions_of z) ≡ z.lines * z.columns
@@ -90,3 +91,21 @@ next_below z at t past fits =
     drop_all (k + 1) (positions_of z) (omega (arith, length_positions z))
     ∙ sym (cond-false _ _ _ (no_line z ((at.line + 1) % 65536) (λ x y. omega arith))))
     (cases_lt at.line z.lines))
+
+-- a walk over the positions of a size, where k of them came
+module _ (z : Size) (left : Positions) (k : ℕ) (reached : positions_left left ≡ drop k (positions_of z)) where
+  -- the one that comes is that of the k-th cell, and the others are left
+  pub comes_next : (at : Position) (after : Positions) → positions_left left ≡ at ∷ positions_left after
+      → (k < z.lines * z.columns) × (at ≡ position_at z.columns k) × (positions_left after ≡ drop (k + 1) (positions_of z))
+  comes_next at after e =
+      let cut : drop k (positions_of z) ≡ at ∷ positions_left after = sym reached ∙ e in
+      let long : length (drop k (positions_of z)) ≡ length (at ∷ positions_left after) = ap length cut in
+      let low : k < z.lines * z.columns = omega (arith, length-drop k (positions_of z), length_positions z, long) in
+      let whole = sym cut ∙ drop_more (positions_of z) k at (omega (arith, low, length_positions z)) in
+      (low, ap (λ l. get_or l 0 at) whole ∙ position_of z k at low, ap (drop 1) whole)
+
+  -- at the end all cells came
+  pub none_next : positions_left left ≡ [] → z.lines * z.columns ≤ k
+  none_next e =
+      let none : length (drop k (positions_of z)) ≡ 0 = ap length (sym reached ∙ e) in
+      omega (arith, length-drop k (positions_of z), length_positions z, none)
