@@ -145,10 +145,15 @@ impl Rendition {
     pub fn select(self, parameters: &[Option<u16>], combine: bool) -> Rendition
         ensures { result ≡ selected parameters.now combine self }
     {
-        if parameters.is_empty() {
-            return Rendition::standard();
+        match parameters {
+            [] => Rendition::standard(),
+            _ => {
+                if combine {
+                    self.changed_all(parameters)
+                } else {
+                    Rendition::standard().changed_all(parameters)
+                }
+            }
         }
-        let from = if combine { self } else { Rendition::standard() };
-        from.changed_all(parameters)
     }
 }

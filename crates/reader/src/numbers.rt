@@ -71,9 +71,8 @@ fn grown(number: Option<u16>, digit: u16) -> u16
     requires { digit < 10 }
     ensures { result ≡ grows number digit }
 {
-    number
-        .unwrap_or(0)
-        .saturating_mul(10)
-        .saturating_add(digit)
-        .min(9999)
+    match number {
+        Some(n) => n.saturating_mul(10).saturating_add(digit).min(9999),
+        None => digit,
+    }
 }
