@@ -67,6 +67,7 @@ impl Parameters {
 }
 
 // A number with one more digit: above 9,999 it stays 9,999, however many follow.
+// A match: as one chain behind `unwrap_or`, tried, it took screens 4 in 100 more instructions.
 fn grown(number: Option<u16>, digit: u16) -> u16
     requires { digit < 10 }
     ensures { result ≡ grows number digit }
