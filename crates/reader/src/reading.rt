@@ -24,7 +24,6 @@ impl Reader {
     }
 
     // Reads one byte, and answers what it completes.
-    // Each arm writes its standing in place: tried as calls of one function that takes it, screens took 5 in 100 more instructions.
     pub fn step(&mut self, byte: u8) -> Completed
         ensures standing { standing_of self.new.standing ≡ (steps (standing_of self.old.standing) byte).standing }
         ensures completes { functions_of result ≡ (steps (standing_of self.old.standing) byte).performs }
@@ -195,14 +194,13 @@ fn completed(function: Function) -> Completed
 fn finished(parameters: Option<Parameters>, space: bool, final_byte: u8) -> Completed
     ensures { functions_of result ≡ (sequence_final (parameters_in parameters) space final_byte).performs }
 {
-    Completed {
-        function: parameters.map(|parameters| {
-            Function::Sequence(Sequence {
-                parameters,
-                space,
-                final_byte,
-            })
-        }),
+    match parameters {
+        Some(parameters) => completed(Function::Sequence(Sequence {
+            parameters,
+            space,
+            final_byte,
+        })),
+        None => NOTHING,
     }
 }
 
