@@ -1,14 +1,13 @@
 -- The parameters of SGR that make a rendition.
-use Rattle.std.specs.Prelude.{ℕ, ◌+◌, Bool, true, false, List, [], ◌∷◌, ◌++◌}
+use Rattle.std.specs.Prelude.{ℕ, Bool, true, false, List, [], ◌∷◌, ◌++◌}
+use Rattle.std.specs.Option.{option_to_list}
 use Rattle.control.specs.declared.rendition.Intensity.{Intensity}
 use Rattle.control.specs.declared.rendition.Underline.{Underline}
 use Rattle.control.specs.declared.rendition.Blink.{Blink}
 use Rattle.control.specs.declared.rendition.Colour.{Colour}
 use Rattle.control.specs.declared.rendition.Rendition.{Rendition}
-use Rattle.control.specs.declared.rendition.Intensity.TheVariants.{Normal, Bold, Faint}
 use Rattle.control.specs.declared.rendition.Underline.TheVariants.{Plain, Single, Double}
-use Rattle.control.specs.declared.rendition.Blink.TheVariants.{Steady, Slow, Rapid}
-use Rattle.control.specs.declared.rendition.Colour.TheVariants.{Default, Black, Red, Green, Yellow, Blue, Magenta, Cyan, White}
+use Rattle.control.specs.Setting.{intensity_parameter, blink_parameter, colour_parameter}
 
 -- the parameter that sets an aspect, if it is not at its default
 abbrev pub sets : ℕ → Bool → List ℕ
@@ -16,14 +15,10 @@ sets n false = []
 sets n true = n ∷ []
 
 abbrev pub sets_intensity : Intensity → List ℕ
-sets_intensity Normal = []
-sets_intensity Bold = 1 ∷ []
-sets_intensity Faint = 2 ∷ []
+sets_intensity x = option_to_list (intensity_parameter x)
 
 abbrev pub sets_blink : Blink → List ℕ
-sets_blink Steady = []
-sets_blink Slow = 5 ∷ []
-sets_blink Rapid = 6 ∷ []
+sets_blink x = option_to_list (blink_parameter x)
 
 -- a single underline stands at 4, a double one at 21
 abbrev pub sets_single : Underline → List ℕ
@@ -38,15 +33,7 @@ sets_double Double = 21 ∷ []
 
 -- colours from 30 or 40 on
 abbrev pub sets_colour : ℕ → Colour → List ℕ
-sets_colour n Default = []
-sets_colour n Black = n ∷ []
-sets_colour n Red = (n + 1) ∷ []
-sets_colour n Green = (n + 2) ∷ []
-sets_colour n Yellow = (n + 3) ∷ []
-sets_colour n Blue = (n + 4) ∷ []
-sets_colour n Magenta = (n + 5) ∷ []
-sets_colour n Cyan = (n + 6) ∷ []
-sets_colour n White = (n + 7) ∷ []
+sets_colour n x = option_to_list (colour_parameter n x)
 
 -- one for each aspect in need, ascending
 abbrev pub needs_of : Rendition → List ℕ
