@@ -107,13 +107,9 @@ fn make<P: Panel>(panel: &mut P, call: PanelCall) -> Result<(), Refusal> {
 
 // Letters from A to Z over and over, in reading order, so that each cell is known by what it holds.
 pub(crate) fn set_letters<P: Panel>(panel: &mut P) -> Result<(), Refusal> {
-    let size = panel.size();
-    let mut code = b'A';
-    for line in 1..=size.lines {
-        for column in 1..=size.columns {
-            panel.set(Position { line, column }, Cell { code, rendition: 0 })?;
-            code = if code < b'Z' { code + 1 } else { b'A' };
-        }
+    let codes = (b'A'..=b'Z').cycle();
+    for (at, code) in panel.size().positions().zip(codes) {
+        panel.set(at, Cell { code, rendition: 0 })?;
     }
     Ok(())
 }

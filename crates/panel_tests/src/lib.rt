@@ -50,7 +50,7 @@ pub fn write<P: Panel>(panel: &mut P, text: &[u8]) {
 // Whether the cells of a panel are those of a text.
 pub fn reads<P: Panel>(panel: &P, text: &[u8]) -> bool {
     let size = panel.size();
-    size.lines as usize * size.columns as usize == text.len()
+    size.cells() == text.len()
         && size
             .positions()
             .zip(text)

@@ -1,7 +1,7 @@
 // Passes over a file.
 use crate::words::{Call, Failure, Kind, Pass};
 use page::page::Page;
-use panel::{ERASED, Lent, ListPanel, ModulePanel, Panel, Position, Rectangle, Size, Window};
+use panel::{ERASED, Lent, ListPanel, ModulePanel, Panel, Rectangle, Size, Window};
 use picture::picture;
 
 const SIZE: Size = Size {
@@ -84,13 +84,10 @@ fn deliver_all<P: Panel>(page: &mut Page, panel: &mut P, bytes: &[u8]) -> Result
 // The hash that the peers print: an erased cell counts as SPACE.
 fn hash_of<P: Panel>(panel: &P) -> u32 {
     let mut hash = 0u32;
-    for line in 1..=SIZE.lines {
-        for column in 1..=SIZE.columns {
-            let cell = panel.cell(Position { line, column }).unwrap_or(ERASED);
-            hash = hash
-                .wrapping_mul(31)
-                .wrapping_add(u32::from(cell.code.max(32)));
-        }
+    for at in SIZE.positions() {
+        let cell = panel.cell(at).unwrap_or(ERASED);
+        let code = u32::from(cell.code.max(32));
+        hash = hash.wrapping_mul(31).wrapping_add(code);
     }
     hash
 }
