@@ -32,7 +32,9 @@ impl<P: Panel> Sheet<P> {
         let state = &self.state;
         let start = Position { line: 1, column: 1 };
         let _ = match extent {
-            Extent::ToEnd => self.panel.erase(state.position, state.size.cells() - state.here()),
+            Extent::ToEnd => self
+                .panel
+                .erase(state.position, state.size.cells() - state.here()),
             Extent::FromStart => self.panel.erase(start, state.here() + 1),
             Extent::All => self.panel.erase(start, state.size.cells()),
         };

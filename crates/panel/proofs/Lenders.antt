@@ -8,9 +8,9 @@ use Rattle.panel.specs.declared.list.ListPanel.{ListPanel}
 use Rattle.panel.specs.declared.module.ModulePanel.{ModulePanel}
 use Rattle.panel.specs.Grids.{erased}
 use Rattle.panel.specs.Memories.{fitting}
-use Rattle.panel.specs.Clears.{clear_on, cells_cleared, bytes_cleared}
+use Rattle.panel.specs.Clears.{clear_on, bytes_cleared}
 use Rattle.panel.specs.Screens.{Screen, Beyond, nothing, cells_past, bytes_past, around, lent}
-use Rattle.panel.specs.Listed.{listed_if, listed, list_shows}
+use Rattle.panel.specs.Listed.{list_shows}
 use Rattle.panel.specs.Moduled.{stored_at, gathered, module_cells, moduled_if, moduled, module_shows}
 use Rattle.panel.proofs.Moduled.{stored_onto}
 

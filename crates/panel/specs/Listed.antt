@@ -1,5 +1,5 @@
 -- What a list panel shows of its memory: from the front, the cells line by line; what is left lies beyond.
-use Rattle.std.specs.Prelude.{◌≡◌, ℕ, ◌*◌, ◌≤◌, Bool, cond, List, length, take, drop}
+use Rattle.std.specs.Prelude.{ℕ, ◌*◌, Bool, cond, List, length, take, drop}
 use Rattle.std.proofs.Common.{arith}
 use Rattle.std.proofs.lemmas.List.{length-take-le}
 use Rattle.panel.specs.declared.cell.Cell.{Cell}

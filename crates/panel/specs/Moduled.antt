@@ -1,6 +1,6 @@
 -- What a module panel shows of its memory: from the front three planes of bytes, the codes, the low and the high bytes of
 -- the renditions; what is left lies beyond. In each plane the odd lines come first, then the even ones, each ascending.
-use Rattle.std.specs.Prelude.{◌≡◌, ℕ, ◌+◌, ◌*◌, ◌/◌, ◌%◌, Bool, cond, List, map, length, drop, ◌==◌, slice_index, slice_set}
+use Rattle.std.specs.Prelude.{ℕ, ◌+◌, ◌*◌, ◌/◌, ◌%◌, Bool, cond, List, map, length, drop, ◌==◌, slice_index, slice_set}
 use Rattle.std.proofs.Common.{arith}
 use Rattle.std.specs.List.{range_with_len}
 use Rattle.std.proofs.lemmas.List.FromFn.{length-map-range_with_len}

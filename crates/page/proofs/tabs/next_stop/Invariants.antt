@@ -1,4 +1,4 @@
-use Rattle.std.proofs.Common.{◌≡◌, ◌+◌, ◌≤◌, drop, length}
+use Rattle.std.proofs.Common.{◌≡◌, ◌+◌, drop}
 use Rattle.page.specs.Stops.{next_stop}
 use Rattle.page.proofs.tabs.next_stop.Given as goal
 

@@ -1,4 +1,4 @@
-use Rattle.std.proofs.Common.{◌≡◌, true, false, sym, rules}
+use Rattle.std.proofs.Common.{◌≡◌, true, false, rules}
 use Rattle.page.specs.Plain.{Plain, plain, known, owes}
 use Rattle.page.proofs.Deliveries.{delivers}
 use Rattle.page.proofs.page.Page.deliver.Goals as goal
