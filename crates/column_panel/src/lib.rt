@@ -58,6 +58,7 @@ impl<'a> ColumnPanel<'a> {
         requires { k + count ≤ (column_shows self.old).grid.lines * (column_shows self.old).grid.columns }
         ensures { column_shows self.new ≡ wipe_on (column_shows self.old) k count }
     {
+        // Cell by cell: the cells of a run do not stand side by side in this memory.
         for i in 0..count {
             self.put(k + i, ERASED);
         }

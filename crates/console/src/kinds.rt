@@ -71,7 +71,7 @@ pub(crate) fn on_list<T: OnPanel>(
     Ok(memory)
 }
 
-// The same on a module panel.
+// The same on a module panel. Not one function for both: the two make another vector of another length, and that is all they do.
 pub(crate) fn on_module<T: OnPanel>(
     rt: &HostRuntime,
     size: Size,

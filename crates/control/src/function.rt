@@ -31,6 +31,7 @@ pub enum Report {
 
 #[derive(Clone, Copy, Debug, PartialEq, Eq)]
 pub enum Control {
+    // One that has no effect. With an Option in its place each row of the tables that select would be wrapped.
     Nothing,
     Character(u8),
     Reset,

@@ -17,8 +17,8 @@ pub struct Delivered {
     pub taken: usize,
 }
 
-// What a page holds beside its cells. A stop is a flag for its column or line, counted from 0; flags
-// past the page's edge mean nothing.
+// What a page holds beside its cells. A stop is a flag for its column or line, counted from 0; flags past the page's edge mean nothing.
+// The arrays are as long as the largest page, since nothing is allocated.
 #[derive(Clone, Copy)]
 pub struct View {
     pub size: Size,

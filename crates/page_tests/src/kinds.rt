@@ -48,8 +48,7 @@ pub(crate) fn delivered_on<P: Panel>(
     format!(in heap; "{short}{text}")
 }
 
-// The window is made in a function of its own, for any panel that is lent: a function that also makes the panel below is not
-// followed by the checker.
+// On a window of any panel.
 pub(crate) fn on_window<P: Panel>(
     heap: Global,
     below: &mut P,
@@ -84,6 +83,7 @@ fn on_list(
     shown(heap, &mut panel, window, deliveries)
 }
 
+// Not one function with that for lists: the two make another vector, and that is all they do.
 fn on_module(
     heap: Global,
     size: Size,

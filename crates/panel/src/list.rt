@@ -17,6 +17,11 @@ pub struct ListPanel<'a> {
 
 // Without lines and columns, on no memory.
 impl Default for ListPanel<'_> {
+    ghost use Rattle.panel.specs.Grids.{no_grid};
+    ghost use Rattle.panel.specs.Listed.{list_shows};
+
+    ghost is_default = { λ p. (list_shows p).grid ≡ no_grid };
+
     fn default() -> Self {
         ListPanel {
             cells: &mut [],

@@ -21,6 +21,11 @@ pub struct ModulePanel<'a> {
 
 // Without lines and columns, on no memory.
 impl Default for ModulePanel<'_> {
+    ghost use Rattle.panel.specs.Grids.{no_grid};
+    ghost use Rattle.panel.specs.Moduled.{module_shows};
+
+    ghost is_default = { λ p. (module_shows p).grid ≡ no_grid };
+
     fn default() -> Self {
         ModulePanel {
             bytes: &mut [],
@@ -74,6 +79,7 @@ impl Lines for ModulePanel<'_> {
         let columns = self.columns();
         let line = at / columns;
         let column = at % columns;
+        // Cell by cell: the bytes of each cell stand in three planes.
         for i in 0..count {
             self.put(line, column + i, ERASED);
         }

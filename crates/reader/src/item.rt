@@ -57,7 +57,8 @@ pub struct ControlString<'a> {
     pub body: &'a [u8],
 }
 
-// Walks along lent bytes, and hands out their items one by one.
+// Walks along lent bytes, and hands out their items one by one. It keeps all the bytes and its place, since an item tells its place
+// among all of them.
 #[derive(Debug, Drop)]
 pub struct Items<'a> {
     pub(crate) bytes: &'a [u8],

@@ -20,7 +20,8 @@ pub enum Layer {
     Page,
 }
 
-// What a refusal points at.
+// What a refusal points at. Three forms, so no Option. A line and a column stand by themselves, since the position on a panel is of a
+// crate above.
 #[derive(Debug, Clone, Copy, PartialEq, Eq)]
 pub enum Place {
     Nowhere,
