@@ -22,7 +22,7 @@ pub(crate) fn send<P: Panel>(
     piece: &[u8],
 ) -> Result<(), Refusal> {
     let mut rest = piece;
-    // No piece needs more deliveries than it has bytes.
+    // No piece needs more deliveries than it has bytes; a `while` would owe a proof that each takes one.
     for _ in piece {
         if rest.is_empty() {
             break;

@@ -33,12 +33,8 @@ pub(crate) fn print_panel<P: Panel>(
 }
 
 fn edge(heap: Global, columns: u16) -> Result<String, AllocError> {
-    let mut text = String::from_str(heap, "+")?;
-    for _ in 0..columns {
-        text.push('-')?;
-    }
-    text.push('+')?;
-    Ok(text)
+    let dashes = "-".repeat(heap, columns as usize)?;
+    format!(in heap; "+{dashes}+")
 }
 
 fn line_text<P: Panel>(

@@ -10,10 +10,7 @@ use std::fs;
 const PIECE: usize = 7;
 
 pub(crate) fn run(rt: &HostRuntime, path: String) -> Result<(), Failure> {
-    let bytes = match fs::read(rt, path.as_str()) {
-        Ok(bytes) => bytes,
-        Err(why) => return Err(Failure::Unread(path, why)),
-    };
+    let bytes = fs::read(rt, path.as_str()).map_err(|why| Failure::Unread(path, why))?;
     let pieces: Vec<&[u8]> = bytes.as_slice().chunks(PIECE).collect(rt.alloc())?;
     print_bytes(rt, pieces.as_slice(), bytes.as_slice())
 }

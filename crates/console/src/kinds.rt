@@ -3,6 +3,7 @@ use crate::call::Failure;
 use panel::{Cell, ERASED, Lent, ListPanel, ModulePanel, Panel, Rectangle, Size, Window};
 use std::str::FromStr;
 
+// Not shared with other programs: each has other kinds, and no library knows a program's words.
 #[derive(Clone, Copy, Debug, PartialEq, Eq)]
 pub enum Kind {
     List,
@@ -37,7 +38,7 @@ pub(crate) const MOST: Size = Size {
 };
 
 pub(crate) fn is_page_size(size: Size) -> bool {
-    matches!((size.lines, size.columns), (1..=64, 1..=132))
+    (1..=MOST.lines).contains(&size.lines) && (1..=MOST.columns).contains(&size.columns)
 }
 
 // What is done on a panel, whatever its kind.

@@ -8,7 +8,7 @@ const C0: [&str; 32] = [
     "IS4", "IS3", "IS2", "IS1",
 ];
 
-// C1 controls by their code less 80; empty where ECMA-48 gives no name.
+// C1 controls by their code less 80; empty where ECMA-48 gives no name, and no Option, so that it reads as a table.
 const C1: [&str; 32] = [
     "", "", "BPH", "NBH", "", "NEL", "SSA", "ESA", "HTS", "HTJ", "VTS", "PLD", "PLU", "RI", "SS2",
     "SS3", "DCS", "PU1", "PU2", "STS", "CCH", "MW", "SPA", "EPA", "SOS", "", "SCI", "CSI", "ST",
@@ -26,9 +26,9 @@ pub(crate) fn control_name(code: u8) -> Option<&'static str> {
     let name = match code {
         0x00..=0x1F => C0[code as usize],
         0x80..=0x9F => C1[code as usize - 0x80],
-        _ => "",
+        _ => return None,
     };
-    if name.is_empty() { None } else { Some(name) }
+    (!name.is_empty()).then_some(name)
 }
 
 // The name of what a sequence calls for, where the panel has a function of it.

@@ -33,7 +33,7 @@ fn add<'a>(
     bytes: &'a [u8],
 ) -> Result<(), AllocError> {
     let mut rest = bytes;
-    // No piece is cut more often than it has bytes.
+    // No piece is cut more often than it has bytes; a `while` would owe a proof that each front has one.
     for _ in bytes {
         if rest.is_empty() {
             break;

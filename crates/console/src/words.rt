@@ -12,10 +12,7 @@ use std::iter::Skip;
 type Words = Skip<Args>;
 
 pub(crate) fn called(rt: &HostRuntime) -> Result<Call, Failure> {
-    let mut words = match env::args(rt) {
-        Ok(words) => words.skip(1),
-        Err(why) => return Err(Failure::Arguments(why)),
-    };
+    let mut words = env::args(rt).map_err(Failure::Arguments)?.skip(1);
     let Some(command) = words.next() else {
         return Ok(Call::Recorded);
     };
@@ -76,17 +73,15 @@ fn kind_and_size(words: &mut Words, command: &'static str) -> Result<(Kind, Size
 }
 
 fn kind(word: String) -> Result<Kind, Failure> {
-    match word.as_str().parse() {
-        Ok(kind) => Ok(kind),
-        Err(UnknownKind) => Err(Failure::UnknownKind(word)),
-    }
+    word.as_str()
+        .parse()
+        .map_err(|_: UnknownKind| Failure::UnknownKind(word))
 }
 
 fn number(word: String) -> Result<u16, Failure> {
-    match word.as_str().parse::<u16>() {
-        Ok(number) => Ok(number),
-        Err(_) => Err(Failure::NoNumber(word)),
-    }
+    word.as_str()
+        .parse::<u16>()
+        .map_err(|_| Failure::NoNumber(word))
 }
 
 fn look(words: &mut Words) -> Result<Look, Failure> {

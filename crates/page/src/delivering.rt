@@ -23,6 +23,7 @@ impl<P: Panel> Sheet<P> {
         ensures count { result ≡ until_request (state_of self.old.state).standing bytes.now }
         ensures after { placed self.new.state (P.Panel.shows self.new.panel) ≡ upon (λ x. run x (taken_at x.state.standing bytes.now)) (placed self.old.state (P.Panel.shows self.old.panel)) }
     {
+        // A loop, since no proof follows a chain whose closure changes the sheet.
         for (i, byte) in bytes.iter().enumerate() {
             self.step(*byte);
             if self.state.owed.is_some() {
@@ -48,6 +49,7 @@ impl Page {
         ensures after { on_panel self.new (P.Panel.shows panel.new) ≡ leaves after_start (on_panel self.old (P.Panel.shows panel.old)) }
     {
         let size = panel.size();
+        // The page's own bounds; that panels on memory have the same is a rule of theirs.
         if !matches!((size.lines, size.columns), (1..=64, 1..=132)) {
             return Err(Refusal::PanelSize);
         }

@@ -16,6 +16,6 @@ mod moves;
 pub mod page;
 mod sheet;
 pub mod state;
-pub mod stops;
+mod stops;
 mod tabs;
 pub mod view;

@@ -11,7 +11,7 @@ fn inside(first: u16, last: u16, n: u32) -> u16
     requires { first ≤ last }
     ensures { result ≡ inside first last n }
 {
-    n.min(last as u32).max(first as u32) as u16
+    n.clamp(first as u32, last as u32) as u16
 }
 
 impl State {

@@ -1,7 +1,7 @@
 // Character and line stops.
 ghost use Rattle.std.specs.Prelude.{◌≡◌, ◌-◌, ◌≤◌, false, length, replicate, take, slice_set};
 
-// A flag for each column or line, counted from 0.
+// A flag for each column or line, counted from 0. An array, since nothing is allocated.
 #[derive(Clone, Copy)]
 pub struct Stops<const N: usize> {
     pub(crate) flags: [bool; N],

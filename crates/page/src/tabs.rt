@@ -63,6 +63,7 @@ fn previous_stop(stops: &[bool], count: u16, n: u16, first: u16) -> u16
     first
 }
 
+// Columns and lines have fields and moves of their own; what they share is in `Stops` and the two searches.
 impl State {
     pub(crate) fn tab(&mut self, n: u16)
         ensures { state_of self.new ≡ tab n (state_of self.old) }

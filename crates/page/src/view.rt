@@ -11,7 +11,7 @@ use panel::Size;
 use reader::standing::Standing;
 
 // What a delivery did. A struct, so that it may come to tell more.
-#[derive(Clone, Copy)]
+#[derive(Clone, Copy, Debug, PartialEq, Eq)]
 pub struct Delivered {
     // how many bytes were taken
     pub taken: usize,
@@ -19,7 +19,7 @@ pub struct Delivered {
 
 // What a page holds beside its cells. A stop is a flag for its column or line, counted from 0; flags past the page's edge mean nothing.
 // The arrays are as long as the largest page, since nothing is allocated.
-#[derive(Clone, Copy)]
+#[derive(Clone, Copy, Debug, PartialEq, Eq)]
 pub struct View {
     pub size: Size,
     pub position: Position,

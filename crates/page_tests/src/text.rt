@@ -107,11 +107,14 @@ fn put_stops(
     count: u16,
     stops: &[bool],
 ) -> Result<(), AllocError> {
-    let mut word = word;
+    let mut first = true;
     for (place, stop) in (1..=count).zip(stops.iter()) {
         if *stop {
-            text.push_str(format!(in heap; "{word} {place}")?.as_str())?;
-            word = "";
+            if first {
+                text.push_str(word)?;
+                first = false;
+            }
+            text.push_str(format!(in heap; " {place}")?.as_str())?;
         }
     }
     Ok(())

@@ -22,7 +22,7 @@ pub fn clear_cells(cells: &mut [Cell], size: Size)
     clear(&mut panel);
 }
 
-// The same of a module panel.
+// The same of a module panel. Not one function: each makes another panel, and says of another memory what it holds.
 pub fn clear_bytes(bytes: &mut [u8], size: Size)
     ensures { bytes.new ≡ bytes_cleared size.lines size.columns bytes.old }
 {

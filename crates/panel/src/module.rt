@@ -79,7 +79,7 @@ impl Lines for ModulePanel<'_> {
         let columns = self.columns();
         let line = at / columns;
         let column = at % columns;
-        // Cell by cell: the bytes of each cell stand in three planes.
+        // Cell by cell: three fills, one in each plane, would say at three places of the memory what `put` says at one.
         for i in 0..count {
             self.put(line, column + i, ERASED);
         }
@@ -125,6 +125,7 @@ impl Panel for ModulePanel<'_> {
     }
 
     fn copy(&mut self, from: Position, to: Position, count: u16) -> Result<(), Refusal> {
+        // As the list panel's. Not one function for both: over any panel, it would be called by what it calls, which is refused.
         let mut panel = take(self);
         let answer = panel.copy_cells(from, to, count);
         *self = panel;

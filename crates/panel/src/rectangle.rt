@@ -4,6 +4,7 @@ ghost use Rattle.panel.specs.Rectangles.{part_of, inside};
 
 use crate::{Position, Size};
 
+// Four numbers, and no Position and Size: callers and definitions name each by itself.
 #[derive(Debug, Clone, Copy, PartialEq, Eq)]
 pub struct Rectangle {
     pub top: u16,

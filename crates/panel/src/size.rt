@@ -8,7 +8,7 @@ ghost use Rattle.panel.specs.Memories.{fitting, roomy};
 use crate::Position;
 
 // A number of lines and of columns.
-#[derive(Debug, Clone, Copy, PartialEq, Eq, Default)]
+#[derive(Debug, Clone, Copy, PartialEq, Eq)]
 pub struct Size {
     pub lines: u16,
     pub columns: u16,

@@ -46,7 +46,8 @@ impl<P: Panel> Window<P> {
         }
     }
 
-    // Where some cells of a line of the window begin below: there too they are cells of a line.
+    // Where some cells of a line of the window begin below: there too they are cells of a line. Not by `then`, as in `Size::find`: for
+    // its subtractions the closure would need a contract of its own.
     fn part_below(&self, from: Position, count: u16) -> Option<Position>
         ensures { result ≡ part_beneath (framed (P.Panel.shows self.now.below).grid.lines (P.Panel.shows self.now.below).grid.columns self.now.frame) from count }
     {

@@ -4,6 +4,7 @@ use Rattle.reader.specs.Functions.{Function, graphic}
 use Rattle.control.specs.Renditions.{rendition_of}
 use Rattle.panel.specs.declared.cell.Cell.{Cell}
 use Rattle.panel.specs.Grids.{Grid}
+use Rattle.panel.specs.Reading.{position_at}
 use Rattle.picture.specs.declared.cells.Pen.{Pen}
 use Rattle.panel.specs.declared.cell.Position.{Position}
 use Rattle.picture.specs.declared.stops.Along.{Along}
@@ -12,7 +13,7 @@ use Rattle.picture.specs.Pictures.{when, cup, sgr, is_erased, column_stop, line_
 
 -- the line and column of an index in reading order
 abbrev pub position_of : Grid → ℕ → Position
-position_of g k = record { line = k / g.columns + 1; column = k % g.columns + 1 }
+position_of g k = position_at g.columns k
 
 abbrev pub starts : Pen → ℕ → Bool
 starts p c = p.gap || c == 1

@@ -19,6 +19,7 @@ fn is_foreign(cell: Cell) -> bool
 pub(crate) fn find_foreign<P: Panel>(panel: &P) -> Option<Position>
     ensures { result ≡ option_map (position_of (P.Panel.shows panel.now).grid) (first_foreign 0 (P.Panel.shows panel.now).grid.cells) }
 {
+    // A loop: a closure that `find` takes would owe a proof that each position is on the panel.
     for at in panel.size().positions() {
         if is_foreign(cell_on(panel, at)) {
             return Some(at);

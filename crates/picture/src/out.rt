@@ -38,7 +38,8 @@ impl<'a> Out<'a> {
         self.at = at.saturating_add(1);
     }
 
-    // A number without leading zeros; four digits are enough for what is written.
+    // A number without leading zeros; four digits are enough for what is written. Not by `write!`: a writer may refuse, and this one only
+    // counts.
     pub(crate) fn put_number(&mut self, n: u16)
         ensures { Lays (tape self.old) (digits n) (tape self.new) }
     {

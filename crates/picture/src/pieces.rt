@@ -53,7 +53,7 @@ impl Written for Sequence<'_> {
     }
 }
 
-// A string by its opener's 8-bit code.
+// A string by its opener's 8-bit code. Not the reader's ControlString, which knows nothing of its opener.
 #[derive(Clone, Copy, Debug)]
 pub struct CommandString<'a> {
     pub opener: u8,

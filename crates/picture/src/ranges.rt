@@ -1,4 +1,4 @@
-// What the writer can be asked for.
+// What the writer can be asked for: a rule of its own, beside the reader's classes of bytes as they come.
 ghost use Rattle.std.specs.Prelude.{◌≡◌};
 ghost use Rattle.std.specs.List.{list_all};
 ghost use Rattle.reader.specs.Bytes.{is_graphic, is_opener, is_body};

@@ -10,9 +10,7 @@ ghost use Rattle.picture.specs.Pictures.{sgr};
 use crate::out::{ESC, Out};
 use control::rendition::{Ground, Rendition, Underline};
 
-// An underline stands at two places, so that the parameters ascend: at 4 if it is single, at 21 if it is double. One function for both
-// would be passed which of the two is meant, and say no less. Two functions,
-// since the place is no value that one of them could take.
+// Two functions, so that parameters ascend: a single underline stands at 4 and a double one at 21, with others between.
 fn single_needs(underline: Underline) -> Option<u16>
     ensures { option_to_list result ≡ sets_single underline }
 {

@@ -24,6 +24,7 @@ pub(crate) fn put_cup(out: &mut Out, at: Position)
 fn put_stop(out: &mut Out, along: Along, k: u16)
     ensures { Draws (tape out.old) (stop_at along k) (tape out.new) }
 {
+    // Two arms that are alike: with place and final byte chosen first, tried, the check knew the final byte no more by its place.
     match along {
         Along::Columns => {
             put_cup(out, Position { line: 1, column: k });
@@ -38,7 +39,8 @@ fn put_stop(out: &mut Out, along: Along, k: u16)
     }
 }
 
-// The first `count` flags as stops; there is none past the last flag.
+// The first `count` flags as stops; there is none past the last flag. Counted, since a view may have any size: the flags can't be cut
+// to it before.
 pub(crate) fn put_stops(out: &mut Out, along: Along, flags: &[bool], count: u16)
     ensures { Draws (tape out.old) (stops_from (stop_at along) 1 (take count flags.now)) (tape out.new) }
 {

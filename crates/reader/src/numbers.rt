@@ -30,7 +30,8 @@ impl Parameters {
         &self.numbers[..self.count]
     }
 
-    // Takes one more byte of the string, and answers whether the parameters are still within the bounds.
+    // Takes one more byte of the string, and answers whether the parameters are still within the bounds. In place: handed back in an
+    // Option, sixteen slots would be copied at each byte.
     pub(crate) fn read(&mut self, byte: u8) -> bool
         ensures { only_if result (listed self.new) ≡ with_byte (Some (listed self.old)) byte }
     {

@@ -20,12 +20,12 @@ pub enum Layer {
     Page,
 }
 
-// What a refusal points at. Three forms, so no Option. A line and a column stand by themselves, since the position on a panel is of a
-// crate above.
+// What a refusal points at. Three forms, so no Option.
 #[derive(Debug, Clone, Copy, PartialEq, Eq)]
 pub enum Place {
     Nowhere,
     Length(usize),
+    // Not a position: that is of a crate above.
     At { line: u16, column: u16 },
 }
 
@@ -52,6 +52,7 @@ pub enum Refusal {
     OutsidePanel { line: u16, column: u16 },
 }
 
+// The number and the word are calls of their own; `Display` prints both, with layer and place.
 impl Refusal {
     pub fn number(self) -> u8
         ensures { result ≡ number self }

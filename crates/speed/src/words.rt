@@ -4,6 +4,7 @@ use std::alloc::AllocError;
 use std::str::FromStr;
 use std::{env, fmt, fs, io};
 
+// Not shared with other programs: each has other kinds, and no library knows a program's words.
 #[derive(Clone, Copy, Debug, PartialEq, Eq)]
 pub enum Kind {
     List,

@@ -2,7 +2,7 @@
 use refusal::Refusal;
 
 // A call by its arguments alone: the bytes of a delivery, or the length of a buffer.
-#[derive(Clone, Copy, Debug)]
+#[derive(Clone, Copy, Debug, PartialEq, Eq)]
 pub enum Turn<'a> {
     Deliver(&'a [u8]),
     Reply(usize),
