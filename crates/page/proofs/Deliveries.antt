@@ -98,9 +98,3 @@ taken_count s bs = length-take-le (until_request s bs) bs (finds_first s bs).wit
 -- what a delivery that was not refused answers, and leaves
 pub delivers : (x : Plain) (bs : List ℕ) (n : ℕ) → known x ≡ true → length bs ≤ 4096 → owes x ≡ false → n ≡ until_request x.sheet.state.standing bs → accepted (record { taken = n }) ≡ deliver_answer x bs
 delivers x bs n k l f e = ap (λ (m : ℕ). accepted (record { taken = m })) (e ∙ sym (taken_count x.sheet.state.standing bs)) ∙ sym (goes x bs page_refuses _ k l f)
-
-pub leaves_after : (st : Bool) (was after : Placed) (bs : List ℕ) → let x : Plain = record { started = st; sheet = sheet_of was } in known x ≡ true → length bs ≤ 4096 → owes x ≡ false → after ≡ upon (fed bs) was
-    → ◌≡◌ {A = OnPanel} (record { plain = record { started = st; sheet = sheet_of after }; beyond = after.screen.beyond }) (leaves (delivered bs) (record { plain = x; beyond = was.screen.beyond }))
-leaves_after st was after bs k l f e =
-    ap (λ (y : Placed). record { plain = record { started = st; sheet = sheet_of y }; beyond = y.screen.beyond }) e
-    ∙ ap (λ (p : Plain). record { plain = p; beyond = was.screen.beyond }) (sym (delivered_goes (record { started = st; sheet = sheet_of was }) bs k l f))

@@ -58,10 +58,6 @@ taken x bs = taken_at x.sheet.state.standing bs
 abbrev pub after_bytes : Plain → List ℕ → Plain
 after_bytes x bs = record { started = x.started; sheet = run x.sheet bs }
 
--- a page begun on what a panel shows; what lies beyond the cells stays
-abbrev pub begun_on : Screen → Placed
-begun_on s = record { state = (begun s.grid).state; screen = with_grid s (begun s.grid).grid }
-
 -- a refusal of the page, which has no place
 abbrev pub page_refuses : {A : Type 0} → ℕ → Answer A
 page_refuses n = refused n layer.Page Nowhere

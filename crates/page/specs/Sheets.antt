@@ -1,5 +1,5 @@
 -- What a page holds, as values: its state, and the grid of cells that its panel shows.
-use Rattle.std.specs.Prelude.{◌≡◌, ℕ, Bool, List, take, Option}
+use Rattle.std.specs.Prelude.{ℕ, Bool, List, take, Option}
 use Rattle.panel.specs.Grids.{Grid}
 use Rattle.panel.specs.Screens.{Screen, with_grid}
 use Rattle.reader.specs.Steps.{Standing}
@@ -56,11 +56,6 @@ sheet_of x = record { state = x.state; grid = x.screen.grid }
 -- an effect on state and cells; what lies beyond the cells stays
 abbrev pub upon : (Sheet → Sheet) → Placed → Placed
 upon f x = record { state = (f (sheet_of x)).state; screen = with_grid x.screen (f (sheet_of x)).grid }
-
--- a page on a panel of its size
-pub record Sits (x : Placed) : Type 0 where
-  pub lines : x.state.lines ≡ x.screen.grid.lines
-  pub columns : x.state.columns ≡ x.screen.grid.columns
 
 -- one part put in place, the others kept
 abbrev pub at : ℕ → ℕ → State → State

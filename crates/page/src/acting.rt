@@ -1,8 +1,8 @@
 // What bytes do to a page and its panel.
-ghost use Rattle.std.specs.Prelude.{◌≡◌, ℕ, ◌≤◌, List, Some};
+ghost use Rattle.std.specs.Prelude.{◌≡◌, ℕ, ◌≤◌, Some};
 ghost use Rattle.reader.specs.Meaning.{function_of};
 ghost use Rattle.reader.specs.Steps.{step as steps};
-ghost use Rattle.page.specs.Sheets.{state_of, placed, upon, owing, reading, sheet_of};
+ghost use Rattle.page.specs.Sheets.{state_of, placed, upon, owing, reading};
 ghost use Rattle.page.specs.Effects.{fresh, begun, select_rendition, set_modes, effect, does, stepped};
 
 use crate::sheet::Sheet;

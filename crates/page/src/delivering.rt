@@ -1,11 +1,11 @@
 // The calls of a page: start, deliver, what it shows, and settle.
-ghost use Rattle.std.specs.Prelude.{◌≡◌, ℕ, ◌+◌, ◌≤◌, true, false, List, is_some, None};
+ghost use Rattle.std.specs.Prelude.{◌≡◌, ℕ, ◌+◌, ◌≤◌, false, is_some, None};
 ghost use Rattle.panel.specs.Grids.{Grid};
 ghost use Rattle.reader.specs.Requests.{until_request};
 ghost use Rattle.refusal.specs.Table.{answer};
 ghost use Rattle.page.specs.Sheets.{placed, upon, state_of};
 ghost use Rattle.page.specs.Effects.{run};
-ghost use Rattle.page.specs.Plain.{plain, unstarted, known, taken_at, deliver_answer, delivered, start_answer, after_start, leaves, on_panel, view_of, settled};
+ghost use Rattle.page.specs.Plain.{plain, unstarted, taken_at, deliver_answer, delivered, start_answer, after_start, leaves, on_panel, view_of, settled};
 ghost use Rattle.page.specs.Proper.{Proper};
 ghost use Rattle.page.specs.Laws.{DeliversInParts, ShowsItems};
 

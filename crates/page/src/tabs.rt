@@ -1,5 +1,5 @@
 // Moves to stops, and stops set and cleared.
-ghost use Rattle.std.specs.Prelude.{◌≡◌, ℕ, ◌+◌, ◌≤◌, map, length, drop};
+ghost use Rattle.std.specs.Prelude.{◌≡◌, ◌+◌, ◌^◌, ◌<◌, ◌≤◌, map, length, drop};
 ghost use Rattle.std.specs.List.{range_with_len};
 ghost use Rattle.page.specs.Sheets.{state_of};
 ghost use Rattle.page.specs.Stops.{next_stop, previous_stop, first_stop, tab, back_tab, line_tab, mark_column, mark_line, clear_columns, clear_lines, cleared};
@@ -27,10 +27,10 @@ impl<const N: usize> Stops<N> {
 }
 
 // The place of the `n`-th stop after a place, else the last.
-fn next_stop(stops: &[bool], after: u16, n: u16, last: u16) -> u16
-    requires all { last ≡ length stops.now }
-    requires before { after ≤ last }
-    ensures { result ≡ next_stop n (after + 1) (drop after stops.now) last }
+fn next_stop(stops: &[bool], after: u16, n: u16) -> u16
+    requires few { length stops.now < 2 ^ 16 }
+    requires before { after ≤ length stops.now }
+    ensures { result ≡ next_stop n (after + 1) (drop after stops.now) (length stops.now) }
 {
     let mut left = n;
     for (i, stop) in stops[after as usize..].iter().enumerate() {
@@ -41,10 +41,11 @@ fn next_stop(stops: &[bool], after: u16, n: u16, last: u16) -> u16
             left -= 1;
         }
     }
-    last
+    stops.len() as u16
 }
 
-// The place of the `n`-th stop among the first `count`, from the last back, else the first column.
+// The place of the `n`-th stop among the first `count`, from the last back, else the first column. Counted, as the definition counts:
+// the stops from there on are the page's too.
 fn previous_stop(stops: &[bool], count: u16, n: u16, first: u16) -> u16
     requires { count ≤ length stops.now }
     ensures { result ≡ previous_stop n stops.now count first }
@@ -69,7 +70,7 @@ impl State {
         ensures { state_of self.new ≡ tab n (state_of self.old) }
     {
         let stops = self.column_stops.of_first(self.size.columns);
-        let column = next_stop(stops, self.position.column, n, self.last_column());
+        let column = next_stop(stops, self.position.column, n);
         self.to_column(column);
     }
 
@@ -85,7 +86,7 @@ impl State {
         ensures { state_of self.new ≡ line_tab n (state_of self.old) }
     {
         let stops = self.line_stops.of_first(self.size.lines);
-        let line = next_stop(stops, self.position.line, n, self.size.lines);
+        let line = next_stop(stops, self.position.line, n);
         self.to_line(line);
     }
 
