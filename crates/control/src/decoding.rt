@@ -1,5 +1,5 @@
 // Which control function a function of the reader selects.
-ghost use Rattle.std.specs.Prelude.{◌≡◌, ℕ, ◌+◌, ◌-◌, ◌≤◌};
+ghost use Rattle.std.specs.Prelude.{◌≡◌};
 ghost use Rattle.reader.specs.Meaning.{function_of};
 ghost use Rattle.control.specs.Tables.{pick};
 ghost use Rattle.control.specs.Decoding.{parameter_at, number_at, choice_at, at_most, no_effect, extent_of, clearings, reports, plain_finals, spaced_finals, singles, decoded};

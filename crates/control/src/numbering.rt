@@ -1,6 +1,6 @@
 // The number that stands for a rendition in a cell: one for each of its aspects, in mixed radix.
 // By name, and not as From and TryFrom, which would say no more: a reader of cells sees which number is meant.
-ghost use Rattle.std.specs.Prelude.{◌≡◌, ℕ, ◌<◌, if◌then◌else◌, Some, None, nat_lt};
+ghost use Rattle.std.specs.Prelude.{◌≡◌, ◌<◌, if◌then◌else◌, Some, None, nat_lt};
 ghost use Rattle.control.specs.Renditions.{number as number_of, rendition_of, NumbersNameRenditions};
 
 use crate::rendition::{Blink, Colour, Intensity, Rendition, Underline};

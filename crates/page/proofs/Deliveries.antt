@@ -8,7 +8,7 @@ use Rattle.reader.proofs.Stopping.{request_here, request_later, finds_first}
 use Rattle.page.specs.Sheets.{Sheet, Placed, sheet_of, upon}
 use Rattle.page.specs.Effects.{stepped, run}
 use Rattle.refusal.specs.Table.{accepted}
-use Rattle.page.specs.Plain.{Plain, OnPanel, known, owes, taken_at, by_delivery, page_refuses, deliver_answer, delivered, after_bytes, taken, leaves}
+use Rattle.page.specs.Plain.{Plain, known, owes, taken_at, by_delivery, page_refuses, deliver_answer, delivered, after_bytes, taken}
 use Rattle.page.proofs.Stepping.{stepped_standing, stepped_owes}
 
 -- all that bytes do

@@ -1,3 +1,4 @@
+pub mod Acts
 pub mod Sheets
 pub mod Moves
 pub mod Stops

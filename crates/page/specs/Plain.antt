@@ -5,14 +5,14 @@ use Rattle.refusal.specs.Table.{Answer, accepted, refused}
 use Rattle.refusal.specs.declared.Layer.TheVariants as layer
 use Rattle.refusal.specs.declared.Place.TheVariants.{Nowhere}
 use Rattle.panel.specs.Grids.{Grid, within}
-use Rattle.panel.specs.Screens.{Screen, Beyond, with_grid}
+use Rattle.panel.specs.Screens.{Screen, Beyond}
 use Rattle.reader.specs.Steps.{Standing}
 use Rattle.reader.specs.Requests.{until_request}
 use Rattle.page.specs.declared.page.Page.{Page}
 use Rattle.page.specs.declared.state.State as code
 use Rattle.page.specs.declared.view.View.{View}
 use Rattle.page.specs.declared.view.Delivered.{Delivered}
-use Rattle.page.specs.Sheets.{State, Sheet, Placed, state_of, on_state, owing}
+use Rattle.page.specs.Sheets.{State, Sheet, state_of, on_state, owing}
 use Rattle.page.specs.Effects.{fresh, begun, run}
 
 -- whether it was started, and its state and cells

@@ -1,8 +1,9 @@
 // What bytes do to a page and its panel.
-ghost use Rattle.std.specs.Prelude.{◌≡◌, ℕ, ◌≤◌, Some};
+ghost use Rattle.std.specs.Prelude.{◌≡◌, ◌≤◌, Some};
 ghost use Rattle.reader.specs.Meaning.{function_of};
 ghost use Rattle.reader.specs.Steps.{step as steps};
-ghost use Rattle.page.specs.Sheets.{state_of, placed, upon, owing, reading};
+ghost use Rattle.page.specs.Sheets.{state_of, owing, reading};
+ghost use Rattle.page.specs.Acts.{Acts};
 ghost use Rattle.page.specs.Effects.{fresh, begun, select_rendition, set_modes, effect, does, stepped};
 
 use crate::sheet::Sheet;
@@ -74,7 +75,7 @@ impl State {
 impl<P: Panel> Sheet<P> {
     // RIS: every cell is erased, and the page begins anew.
     fn reset(&mut self)
-        ensures { placed self.new.state (P.Panel.shows self.new.panel) ≡ upon (λ x. begun x.grid) (placed self.old.state (P.Panel.shows self.old.panel)) }
+        ensures { Acts P.Panel.shows (λ x. begun x.grid) self.old self.new }
     {
         clear(&mut self.panel);
         self.state = State::new(self.state.size);
@@ -82,7 +83,7 @@ impl<P: Panel> Sheet<P> {
 
     // A control function, with the values of the sequence that selects it.
     fn act(&mut self, control: Control, parameters: &[Option<u16>])
-        ensures { placed self.new.state (P.Panel.shows self.new.panel) ≡ upon (effect control parameters.now) (placed self.old.state (P.Panel.shows self.old.panel)) }
+        ensures { Acts P.Panel.shows (effect control parameters.now) self.old self.new }
     {
         match control {
             Control::Nothing => {}
@@ -124,7 +125,7 @@ impl<P: Panel> Sheet<P> {
     }
 
     fn perform(&mut self, function: &Function)
-        ensures { placed self.new.state (P.Panel.shows self.new.panel) ≡ upon (does (function_of function.now)) (placed self.old.state (P.Panel.shows self.old.panel)) }
+        ensures { Acts P.Panel.shows (does (function_of function.now)) self.old self.new }
     {
         let control = decode(function);
         match function {
@@ -135,7 +136,7 @@ impl<P: Panel> Sheet<P> {
 
     // Any byte: the reader tells what it completes.
     fn complete(&mut self, byte: u8)
-        ensures { placed self.new.state (P.Panel.shows self.new.panel) ≡ upon (λ x. stepped x byte) (placed self.old.state (P.Panel.shows self.old.panel)) }
+        ensures { Acts P.Panel.shows (λ x. stepped x byte) self.old self.new }
     {
         if let Some(function) = self.state.reader.step(byte).function {
             self.perform(&function);
@@ -145,7 +146,7 @@ impl<P: Panel> Sheet<P> {
     // What one byte does. Most are characters at rest and bytes of a sequence's parameters, of which it is known what they
     // complete.
     pub(crate) fn step(&mut self, byte: u8)
-        ensures { placed self.new.state (P.Panel.shows self.new.panel) ≡ upon (λ x. stepped x byte) (placed self.old.state (P.Panel.shows self.old.panel)) }
+        ensures { Acts P.Panel.shows (λ x. stepped x byte) self.old self.new }
     {
         match (self.state.reader.standing(), byte) {
             (Standing::Rest, 0x20..=0x7E | 0xA0..=0xFF) => self.character(byte),

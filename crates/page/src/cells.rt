@@ -1,6 +1,7 @@
 // Movements of cells, feeds, and graphic characters. Every movement is one shift of a part of the page.
-ghost use Rattle.std.specs.Prelude.{◌≡◌, ℕ, ◌+◌, ◌-◌, ◌≤◌};
-ghost use Rattle.page.specs.Sheets.{state_of, placed, upon};
+ghost use Rattle.std.specs.Prelude.{◌≡◌};
+ghost use Rattle.page.specs.Acts.{Acts};
+ghost use Rattle.page.specs.Sheets.{state_of};
 ghost use Rattle.page.specs.Cells.{all_of, line_rest, page_rest, moved, insert_characters, delete_characters, insert_lines, delete_lines, scroll, line_feed, reverse_line_feed, next_line, set_character, character};
 ghost use Rattle.panel.specs.declared.shifting.Direction.TheVariants.{Right};
 
@@ -47,40 +48,40 @@ impl State {
 
 impl<P: Panel> Sheet<P> {
     pub(crate) fn insert_characters(&mut self, n: u16)
-        ensures { placed self.new.state (P.Panel.shows self.new.panel) ≡ upon (insert_characters n) (placed self.old.state (P.Panel.shows self.old.panel)) }
+        ensures { Acts P.Panel.shows (insert_characters n) self.old self.new }
     {
         let _ = shift(&mut self.panel, self.state.line_rest(), Direction::Right, n);
         self.state.to_first_column();
     }
 
     pub(crate) fn delete_characters(&mut self, n: u16)
-        ensures { placed self.new.state (P.Panel.shows self.new.panel) ≡ upon (delete_characters n) (placed self.old.state (P.Panel.shows self.old.panel)) }
+        ensures { Acts P.Panel.shows (delete_characters n) self.old self.new }
     {
         let _ = shift(&mut self.panel, self.state.line_rest(), Direction::Left, n);
     }
 
     pub(crate) fn insert_lines(&mut self, n: u16)
-        ensures { placed self.new.state (P.Panel.shows self.new.panel) ≡ upon (insert_lines n) (placed self.old.state (P.Panel.shows self.old.panel)) }
+        ensures { Acts P.Panel.shows (insert_lines n) self.old self.new }
     {
         let _ = shift(&mut self.panel, self.state.page_rest(), Direction::Down, n);
         self.state.to_first_column();
     }
 
     pub(crate) fn delete_lines(&mut self, n: u16)
-        ensures { placed self.new.state (P.Panel.shows self.new.panel) ≡ upon (delete_lines n) (placed self.old.state (P.Panel.shows self.old.panel)) }
+        ensures { Acts P.Panel.shows (delete_lines n) self.old self.new }
     {
         let _ = shift(&mut self.panel, self.state.page_rest(), Direction::Up, n);
         self.state.to_first_column();
     }
 
     pub(crate) fn scroll(&mut self, way: Direction, n: u16)
-        ensures { placed self.new.state (P.Panel.shows self.new.panel) ≡ upon (scroll way n) (placed self.old.state (P.Panel.shows self.old.panel)) }
+        ensures { Acts P.Panel.shows (scroll way n) self.old self.new }
     {
         let _ = shift(&mut self.panel, self.state.all(), way, n);
     }
 
     pub(crate) fn line_feed(&mut self)
-        ensures { placed self.new.state (P.Panel.shows self.new.panel) ≡ upon line_feed (placed self.old.state (P.Panel.shows self.old.panel)) }
+        ensures { Acts P.Panel.shows line_feed self.old self.new }
     {
         if self.state.position.line < self.state.size.lines {
             self.state.down(1);
@@ -90,7 +91,7 @@ impl<P: Panel> Sheet<P> {
     }
 
     pub(crate) fn reverse_line_feed(&mut self)
-        ensures { placed self.new.state (P.Panel.shows self.new.panel) ≡ upon reverse_line_feed (placed self.old.state (P.Panel.shows self.old.panel)) }
+        ensures { Acts P.Panel.shows reverse_line_feed self.old self.new }
     {
         if 1 < self.state.position.line {
             self.state.up(1);
@@ -100,7 +101,7 @@ impl<P: Panel> Sheet<P> {
     }
 
     pub(crate) fn next_line(&mut self)
-        ensures { placed self.new.state (P.Panel.shows self.new.panel) ≡ upon next_line (placed self.old.state (P.Panel.shows self.old.panel)) }
+        ensures { Acts P.Panel.shows next_line self.old self.new }
     {
         self.state.to_first_column();
         self.line_feed();
@@ -108,7 +109,7 @@ impl<P: Panel> Sheet<P> {
 
     // Sets a graphic character at the active position, which grows by one column.
     fn set_character(&mut self, code: u8)
-        ensures { placed self.new.state (P.Panel.shows self.new.panel) ≡ upon (set_character code) (placed self.old.state (P.Panel.shows self.old.panel)) }
+        ensures { Acts P.Panel.shows (set_character code) self.old self.new }
     {
         let cell = Cell {
             code,
@@ -120,13 +121,13 @@ impl<P: Panel> Sheet<P> {
 
     // The rest of the line moves one right.
     fn open(&mut self)
-        ensures { placed self.new.state (P.Panel.shows self.new.panel) ≡ upon (moved line_rest Right 1) (placed self.old.state (P.Panel.shows self.old.panel)) }
+        ensures { Acts P.Panel.shows (moved line_rest Right 1) self.old self.new }
     {
         let _ = shift(&mut self.panel, self.state.line_rest(), Direction::Right, 1);
     }
 
     pub(crate) fn character(&mut self, code: u8)
-        ensures { placed self.new.state (P.Panel.shows self.new.panel) ≡ upon (character code) (placed self.old.state (P.Panel.shows self.old.panel)) }
+        ensures { Acts P.Panel.shows (character code) self.old self.new }
     {
         if self.state.modes.insertion {
             self.open();

@@ -1,9 +1,10 @@
 // The calls of a page: start, deliver, what it shows, and settle.
-ghost use Rattle.std.specs.Prelude.{◌≡◌, ℕ, ◌+◌, ◌≤◌, false, is_some, None};
+ghost use Rattle.std.specs.Prelude.{◌≡◌, false, is_some, None};
 ghost use Rattle.panel.specs.Grids.{Grid};
 ghost use Rattle.reader.specs.Requests.{until_request};
 ghost use Rattle.refusal.specs.Table.{answer};
-ghost use Rattle.page.specs.Sheets.{placed, upon, state_of};
+ghost use Rattle.page.specs.Acts.{Acts};
+ghost use Rattle.page.specs.Sheets.{state_of};
 ghost use Rattle.page.specs.Effects.{run};
 ghost use Rattle.page.specs.Plain.{plain, unstarted, taken_at, deliver_answer, delivered, start_answer, after_start, leaves, on_panel, view_of, settled};
 ghost use Rattle.page.specs.Proper.{Proper};
@@ -21,7 +22,7 @@ impl<P: Panel> Sheet<P> {
     fn feed(&mut self, bytes: &[u8]) -> usize
         requires { is_some self.old.state.owed ≡ false }
         ensures count { result ≡ until_request (state_of self.old.state).standing bytes.now }
-        ensures after { placed self.new.state (P.Panel.shows self.new.panel) ≡ upon (λ x. run x (taken_at x.state.standing bytes.now)) (placed self.old.state (P.Panel.shows self.old.panel)) }
+        ensures after { Acts P.Panel.shows (λ x. run x (taken_at x.state.standing bytes.now)) self.old self.new }
     {
         // A loop, since no proof follows a chain whose closure changes the sheet.
         for (i, byte) in bytes.iter().enumerate() {

@@ -1,6 +1,7 @@
 // Erasures: ED, EL and ECH. Each is one run of cells.
-ghost use Rattle.std.specs.Prelude.{◌≡◌, ℕ, ◌+◌, ◌-◌, ◌*◌, ◌≤◌};
-ghost use Rattle.page.specs.Sheets.{state_of, placed, upon};
+ghost use Rattle.std.specs.Prelude.{◌≡◌};
+ghost use Rattle.page.specs.Acts.{Acts};
+ghost use Rattle.page.specs.Sheets.{state_of};
 ghost use Rattle.page.specs.Cells.{here, to_edge, erase_in_page, erase_in_line, erase_characters};
 
 use crate::sheet::Sheet;
@@ -27,7 +28,7 @@ impl State {
 
 impl<P: Panel> Sheet<P> {
     pub(crate) fn erase_in_page(&mut self, extent: Extent)
-        ensures { placed self.new.state (P.Panel.shows self.new.panel) ≡ upon (erase_in_page extent) (placed self.old.state (P.Panel.shows self.old.panel)) }
+        ensures { Acts P.Panel.shows (erase_in_page extent) self.old self.new }
     {
         let state = &self.state;
         let start = Position { line: 1, column: 1 };
@@ -41,7 +42,7 @@ impl<P: Panel> Sheet<P> {
     }
 
     pub(crate) fn erase_in_line(&mut self, extent: Extent)
-        ensures { placed self.new.state (P.Panel.shows self.new.panel) ≡ upon (erase_in_line extent) (placed self.old.state (P.Panel.shows self.old.panel)) }
+        ensures { Acts P.Panel.shows (erase_in_line extent) self.old self.new }
     {
         let state = &self.state;
         let Position { line, column } = state.position;
@@ -55,7 +56,7 @@ impl<P: Panel> Sheet<P> {
 
     // `n` cells from the active position, to the line's end at most.
     pub(crate) fn erase_characters(&mut self, n: u16)
-        ensures { placed self.new.state (P.Panel.shows self.new.panel) ≡ upon (erase_characters n) (placed self.old.state (P.Panel.shows self.old.panel)) }
+        ensures { Acts P.Panel.shows (erase_characters n) self.old self.new }
     {
         let count = n.min(self.state.to_edge());
         let _ = self.panel.erase(self.state.position, count as usize);

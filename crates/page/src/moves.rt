@@ -1,5 +1,5 @@
 // Moves of the active position. Each goes through `go_to`, which keeps it on the page.
-ghost use Rattle.std.specs.Prelude.{◌≡◌, ℕ, ◌≤◌};
+ghost use Rattle.std.specs.Prelude.{◌≡◌, ◌≤◌};
 ghost use Rattle.page.specs.Sheets.{state_of};
 ghost use Rattle.page.specs.Moves.{inside, first_column, last_column, go_to, up, down, right, left, to_column, to_line, to_first_column};
 

@@ -1,5 +1,5 @@
 // The planes of a module panel: where the bytes of a cell stand.
-ghost use Rattle.std.specs.Prelude.{◌≡◌, ℕ, ◌+◌, ◌*◌, ◌/◌, ◌%◌, ◌<◌, length};
+ghost use Rattle.std.specs.Prelude.{◌≡◌, ◌+◌, ◌*◌, ◌<◌, length};
 ghost use Rattle.panel.specs.Moduled.{row_of, gathered, scattered};
 
 use crate::Cell;
@@ -23,7 +23,7 @@ pub(crate) fn gather(bytes: &[u8], n: usize, at: usize) -> Cell
 {
     Cell {
         code: bytes[at],
-        rendition: bytes[n + at] as u16 + 256 * bytes[2 * n + at] as u16,
+        rendition: u16::from_le_bytes([bytes[n + at], bytes[2 * n + at]]),
     }
 }
 
@@ -32,7 +32,8 @@ pub(crate) fn scatter(bytes: &mut [u8], n: usize, at: usize, cell: Cell)
     requires { 2 * n + at < length bytes.old }
     ensures { bytes.new ≡ scattered n bytes.old at cell }
 {
+    let [low, high] = cell.rendition.to_le_bytes();
     bytes[at] = cell.code;
-    bytes[n + at] = (cell.rendition % 256) as u8;
-    bytes[2 * n + at] = (cell.rendition / 256) as u8;
+    bytes[n + at] = low;
+    bytes[2 * n + at] = high;
 }

@@ -1,5 +1,5 @@
 // Parameter strings, byte by byte.
-ghost use Rattle.std.specs.Prelude.{◌≡◌, ℕ, ◌+◌, ◌<◌, ◌≤◌, [], Some};
+ghost use Rattle.std.specs.Prelude.{◌≡◌, ◌<◌, [], Some};
 ghost use Rattle.reader.specs.Steps.{grown as grows, with_digit, with_separator, bounded, with_byte, only_if};
 ghost use Rattle.reader.specs.Meaning.{listed, parameters_in};
 

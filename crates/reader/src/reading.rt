@@ -1,5 +1,5 @@
 // The stepper: what each byte does at each standing.
-ghost use Rattle.std.specs.Prelude.{◌≡◌, ℕ, ◌+◌, ◌<◌, ◌≤◌, length, Some};
+ghost use Rattle.std.specs.Prelude.{◌≡◌, length, Some};
 ghost use Rattle.reader.specs.Steps.{rest, step as steps, at_rest, sequence_final, standing_after, performed};
 ghost use Rattle.reader.specs.Requests.{is_report, any_requests, until_request};
 ghost use Rattle.reader.specs.Laws.{ReadsInParts, ReadsNumbers, ReadsReset, StandingsDiffer, StopsAtRequest};

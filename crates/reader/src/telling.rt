@@ -1,5 +1,5 @@
 // What items tell.
-ghost use Rattle.std.specs.Prelude.{◌≡◌, ℕ, List, [], ◌∷◌, ◌++◌, MatchOption, ◌≢◌};
+ghost use Rattle.std.specs.Prelude.{◌≡◌, ℕ, List, MatchOption};
 ghost use Rattle.std.specs.Option.{option_map, option_to_list};
 ghost use Rattle.reader.specs.Meaning.{function_of, sequence_of};
 ghost use Rattle.reader.specs.Steps.{rest, performed};
