@@ -75,7 +75,7 @@ fn begin<P: Panel, Q: Panel>(
 ) -> Result<(), Failure> {
     let heap = rt.alloc();
     let list = transcripts::list_of(heap, &PARTS[0..2], BEFORE)?;
-    let transcript = run_turns(heap, one, tower, list.as_slice())?;
+    let transcript = run_turns(heap, one, tower, &list)?;
     transcripts::print(rt, "tower", &transcript)?;
     let _ = other.deliver(practice, b"PRACTICE\x1b[3;")?;
     refused::show_unfinished(rt, other, practice)
@@ -95,7 +95,7 @@ fn copy<P: Panel, Q: Panel>(
         Err(refusal) => refused::print(rt, refusal)?,
     }
     let mut buffer = vec![in rt.alloc(); 0; ROOM]?;
-    let length = copy_page(one, tower, other, practice, buffer.as_mut_slice())?;
+    let length = copy_page(one, tower, other, practice, &mut buffer)?;
     println!(rt; "The practice console takes a picture of {length} bytes")?;
     frame::print_panel(rt, practice, Look::Plain)
 }
@@ -111,15 +111,7 @@ fn go_on<P: Panel, Q: Panel>(
     let heap = rt.alloc();
     let list = transcripts::list_of(heap, &PARTS[2..3], AFTER_IN_TOWER)?;
     let other_list = transcripts::list_of(heap, &PARTS[2..3], AFTER_IN_PRACTICE)?;
-    let (first, second) = run_two(
-        heap,
-        one,
-        tower,
-        list.as_slice(),
-        other,
-        practice,
-        other_list.as_slice(),
-    )?;
+    let (first, second) = run_two(heap, one, tower, &list, other, practice, &other_list)?;
     transcripts::print(rt, "tower", &first)?;
     transcripts::print(rt, "practice", &second)
 }
@@ -137,14 +129,7 @@ fn compare<P: Panel, Q: Panel>(
     frame::print_panel(rt, practice, Look::Plain)?;
     let mut first = vec![in rt.alloc(); 0; ROOM]?;
     let mut second = vec![in rt.alloc(); 0; ROOM]?;
-    if same_pages(
-        one,
-        tower,
-        other,
-        practice,
-        first.as_mut_slice(),
-        second.as_mut_slice(),
-    )? {
+    if same_pages(one, tower, other, practice, &mut first, &mut second)? {
         rt.println("The two are equal")?;
     } else {
         rt.println("The two differ")?;

@@ -10,9 +10,9 @@ use std::fs;
 const PIECE: usize = 7;
 
 pub(crate) fn run(rt: &HostRuntime, path: String) -> Result<(), Failure> {
-    let bytes = fs::read(rt, path.as_str()).map_err(|why| Failure::Unread(path, why))?;
-    let pieces: Vec<&[u8]> = bytes.as_slice().chunks(PIECE).collect(rt.alloc())?;
-    print_bytes(rt, pieces.as_slice(), bytes.as_slice())
+    let bytes = fs::read(rt, &path).map_err(|why| Failure::Unread(path, why))?;
+    let pieces: Vec<&[u8]> = bytes.chunks(PIECE).collect(rt.alloc())?;
+    print_bytes(rt, &pieces, &bytes)
 }
 
 pub(crate) fn print_bytes(rt: &HostRuntime, pieces: &[&[u8]], bytes: &[u8]) -> Result<(), Failure> {

@@ -67,7 +67,7 @@ pub(crate) fn on_list<T: OnPanel>(
     what: &T,
 ) -> Result<Vec<Cell>, Failure> {
     let mut memory = vec![in rt.alloc(); ERASED; size.cells()]?;
-    let mut panel = ListPanel::new(memory.as_mut_slice(), size);
+    let mut panel = ListPanel::new(&mut memory, size);
     what.run(rt, &mut panel)?;
     Ok(memory)
 }
@@ -79,7 +79,7 @@ pub(crate) fn on_module<T: OnPanel>(
     what: &T,
 ) -> Result<Vec<u8>, Failure> {
     let mut memory = vec![in rt.alloc(); 0; size.cells().saturating_mul(3)]?;
-    let mut panel = ModulePanel::new(memory.as_mut_slice(), size);
+    let mut panel = ModulePanel::new(&mut memory, size);
     what.run(rt, &mut panel)?;
     Ok(memory)
 }

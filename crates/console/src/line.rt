@@ -66,7 +66,7 @@ impl Line {
         self.close()?;
         self.part()?;
         let word = word.to_string(self.heap)?;
-        self.text.push_str(word.as_str())
+        self.text.push_str(&word)
     }
 
     fn part(&mut self) -> Result<(), AllocError> {
@@ -89,11 +89,7 @@ impl Line {
         if self.text.is_empty() {
             self.text.push_str("nothing")?;
         }
-        let Line {
-            text,
-            quoted: _,
-            heap: _,
-        } = self;
+        let Line { text, .. } = self;
         Ok(text)
     }
 }

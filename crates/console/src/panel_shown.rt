@@ -33,11 +33,11 @@ pub(crate) fn run(rt: &HostRuntime, kind: Kind, size: Size) -> Result<(), Failur
     match kind {
         Kind::List | Kind::Window => {
             let cells = kinds::on_list(rt, below, &calls)?;
-            memory::print_cells(rt, below, cells.as_slice())
+            memory::print_cells(rt, below, &cells)
         }
         Kind::Module | Kind::WindowModule => {
             let bytes = kinds::on_module(rt, below, &calls)?;
-            memory::print_planes(rt, below, bytes.as_slice())
+            memory::print_planes(rt, below, &bytes)
         }
     }
 }

@@ -40,12 +40,12 @@ impl OnPanel for Bytes<'_> {
 }
 
 pub(crate) fn run(rt: &HostRuntime, show: &Show) -> Result<(), Failure> {
-    let bytes = match fs::read(rt, show.path.as_str()) {
+    let bytes = match fs::read(rt, &show.path) {
         Ok(bytes) => bytes,
         Err(why) => return Err(Failure::Unread(show.path.clone()?, why)),
     };
     let shown = Bytes {
-        bytes: bytes.as_slice(),
+        bytes: &bytes,
         look: show.look,
     };
     kinds::on_kind(rt, show.kind, show.size, &shown)

@@ -108,7 +108,7 @@ fn read_parts(rt: &HostRuntime) -> Result<(), Failure> {
         all.extend_from_slice(bytes)?;
     }
     rt.println("")?;
-    items::print_bytes(rt, pieces.as_slice(), all.as_slice())
+    items::print_bytes(rt, &pieces, &all)
 }
 
 // A panel that is called without a page, small enough that its memory can be read.

@@ -48,7 +48,7 @@ fn add<'a>(
 }
 
 pub(crate) fn print(rt: &HostRuntime, name: &str, transcript: &Transcript) -> Result<(), Failure> {
-    let answers = transcript.answers.as_slice();
+    let answers = &transcript.answers;
     let accepted = answers.iter().filter(|answer| answer.is_ok()).count();
     let refused = answers.len().saturating_sub(accepted);
     let written = transcript.written.len();

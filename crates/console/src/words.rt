@@ -73,15 +73,12 @@ fn kind_and_size(words: &mut Words, command: &'static str) -> Result<(Kind, Size
 }
 
 fn kind(word: String) -> Result<Kind, Failure> {
-    word.as_str()
-        .parse()
+    word.parse()
         .map_err(|_: UnknownKind| Failure::UnknownKind(word))
 }
 
 fn number(word: String) -> Result<u16, Failure> {
-    word.as_str()
-        .parse::<u16>()
-        .map_err(|_| Failure::NoNumber(word))
+    word.parse::<u16>().map_err(|_| Failure::NoNumber(word))
 }
 
 fn look(words: &mut Words) -> Result<Look, Failure> {

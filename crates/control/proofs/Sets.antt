@@ -52,7 +52,8 @@ sets_colour Background Magenta n r e = by 45 n r e
 sets_colour Background Cyan n r e = by 46 n r e
 sets_colour Background White n r e = by 47 n r e
 
--- the colours from black on
+-- the colours from black on; tag_of is the checker's own word for `as u16` of a variant, of
+-- which the library has no lemma
 pub past_black : (b n : ℕ) (x : Colour) → b ≡ n → (x ≡ Default → ⊥) → Some (b + tag_of the_type x - 1) ≡ colour_parameter n x
 past_black b n Default e h = absurd (h refl)
 past_black b n Black e h = ap Some (omega (arith, e))

@@ -1,5 +1,5 @@
-pub mod Acts
 pub mod Sheets
+pub mod Acts
 pub mod Moves
 pub mod Stops
 pub mod Cells

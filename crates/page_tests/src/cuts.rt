@@ -31,7 +31,7 @@ fn cut_at_every_byte(rt: HostRuntime) -> Result<(), Fail> {
         let whole = delivered(heap, kind, size(2, 5), &[STREAM])?;
         assert_eq!(rt; whole.as_str(), SHOWN);
         for at in 0..STREAM.len() {
-            check_cut(&rt, heap, kind, whole.as_str(), at)?;
+            check_cut(&rt, heap, kind, &whole, at)?;
         }
     }
     Ok(())
@@ -41,7 +41,7 @@ fn cut_at_every_byte(rt: HostRuntime) -> Result<(), Fail> {
 fn byte_by_byte(rt: HostRuntime) -> Result<(), Fail> {
     let heap = rt.alloc();
     let bytes: Vec<&[u8]> = STREAM.chunks(1).collect(heap)?;
-    let text = delivered(heap, Kind::Module, size(2, 5), bytes.as_slice())?;
+    let text = delivered(heap, Kind::Module, size(2, 5), &bytes)?;
     assert_eq!(rt; text.as_str(), SHOWN);
     Ok(())
 }

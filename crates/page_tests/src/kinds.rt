@@ -80,7 +80,7 @@ fn on_list(
     deliveries: &[&[u8]],
 ) -> Result<String, AllocError> {
     let mut cells = vec![in heap; ERASED; 8778]?;
-    let mut panel = ListPanel::new(cells.as_mut_slice(), size);
+    let mut panel = ListPanel::new(&mut cells, size);
     shown(heap, &mut panel, window, deliveries)
 }
 
@@ -92,7 +92,7 @@ fn on_module(
     deliveries: &[&[u8]],
 ) -> Result<String, AllocError> {
     let mut bytes = vec![in heap; 0xA5; 26334]?;
-    let mut panel = ModulePanel::new(bytes.as_mut_slice(), size);
+    let mut panel = ModulePanel::new(&mut bytes, size);
     shown(heap, &mut panel, window, deliveries)
 }
 

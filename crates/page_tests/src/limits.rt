@@ -75,10 +75,10 @@ fn lengths(rt: HostRuntime) -> Result<(), Fail> {
     let heap = rt.alloc();
     for kind in [Kind::List, Kind::Module] {
         let longest = vec![in heap; b'A'; 4096]?;
-        let text = delivered(heap, kind, size(1, 3), &[longest.as_slice(), b""])?;
+        let text = delivered(heap, kind, size(1, 3), &[&longest, b""])?;
         assert_eq!(rt; text.as_str(), "AAA 1;3");
         let longer = vec![in heap; b'A'; 4097]?;
-        let text = delivered(heap, kind, size(1, 3), &[longer.as_slice()])?;
+        let text = delivered(heap, kind, size(1, 3), &[&longer])?;
         assert_eq!(rt; text.as_str(), "refused 3 Long page 0");
     }
     Ok(())

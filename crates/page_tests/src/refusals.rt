@@ -67,14 +67,7 @@ fn before_start(rt: HostRuntime) -> Result<(), Fail> {
     let long = vec![in heap; b'A'; 4097]?;
     let mut panel = ListPanel::new(&mut cells, size(2, 5));
     check_refused(&rt, heap, &mut page, &mut panel, b"", "2 Stranger page 0")?;
-    check_refused(
-        &rt,
-        heap,
-        &mut page,
-        &mut panel,
-        long.as_slice(),
-        "2 Stranger page 0",
-    )?;
+    check_refused(&rt, heap, &mut page, &mut panel, &long, "2 Stranger page 0")?;
     let mut none = [MARK; 9];
     let mut short = ListPanel::new(&mut none, size(2, 5));
     assert_eq!(rt;
@@ -106,30 +99,16 @@ fn after_start(rt: HostRuntime) -> Result<(), Fail> {
         heap,
         &mut page,
         &mut narrow,
-        long.as_slice(),
+        &long,
         "2 Stranger page 0",
     )?;
-    check_refused(
-        &rt,
-        heap,
-        &mut page,
-        &mut panel,
-        long.as_slice(),
-        "3 Long page 0",
-    )?;
+    check_refused(&rt, heap, &mut page, &mut panel, &long, "3 Long page 0")?;
     assert_eq!(rt;
         deliver_text(heap, &mut page, &mut panel, b"AB\x9b6nC")?.as_str(),
         "5 taken"
     );
     check_refused(&rt, heap, &mut page, &mut narrow, b"", "2 Stranger page 0")?;
-    check_refused(
-        &rt,
-        heap,
-        &mut page,
-        &mut panel,
-        long.as_slice(),
-        "3 Long page 0",
-    )?;
+    check_refused(&rt, heap, &mut page, &mut panel, &long, "3 Long page 0")?;
     check_refused(&rt, heap, &mut page, &mut panel, b"C", "4 Owing page 0")?;
     check_refused(&rt, heap, &mut page, &mut panel, b"", "4 Owing page 0")?;
     page.settle();

@@ -45,7 +45,7 @@ const ROWS: [(&[u8], &str); 23] = [
 fn stops(rt: HostRuntime) -> Result<(), Fail> {
     for (bytes, state) in ROWS {
         let text = format!(in rt.alloc(); "{NO_CELLS} {state}")?;
-        check_all(&rt, rt.alloc(), size(4, 20), b"", &[(bytes, text.as_str())])?;
+        check_all(&rt, rt.alloc(), size(4, 20), b"", &[(bytes, &text)])?;
     }
     Ok(())
 }

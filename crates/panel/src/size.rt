@@ -36,7 +36,7 @@ impl Size {
     pub(crate) fn has(self, at: Position) -> bool
         ensures { result ≡ within self.lines self.columns at.line at.column }
     {
-        1 <= at.line && at.line <= self.lines && 1 <= at.column && at.column <= self.columns
+        (1..=self.lines).contains(&at.line) && (1..=self.columns).contains(&at.column)
     }
 
     // The index of a line and column.
@@ -71,10 +71,8 @@ impl Size {
     pub(crate) fn on_memory(self, room: usize) -> Size
         ensures { result ≡ (if fitting self.lines self.columns room then self else size_of no_grid) }
     {
-        if 1 <= self.lines
-            && self.lines <= MOST_LINES
-            && 1 <= self.columns
-            && self.columns <= MOST_COLUMNS
+        if (1..=MOST_LINES).contains(&self.lines)
+            && (1..=MOST_COLUMNS).contains(&self.columns)
             && self.cells() <= room
         {
             self

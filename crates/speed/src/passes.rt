@@ -25,17 +25,17 @@ pub(crate) fn run(rt: &HostRuntime, call: &Call) -> Result<(), Failure> {
     match call.kind {
         Kind::List => {
             let mut cells = vec![in rt.alloc(); ERASED; 1920]?;
-            let mut panel = ListPanel::new(cells.as_mut_slice(), SIZE);
+            let mut panel = ListPanel::new(&mut cells, SIZE);
             on_panel(rt, &mut panel, call)
         }
         Kind::Module => {
             let mut bytes = vec![in rt.alloc(); 0; 5760]?;
-            let mut panel = ModulePanel::new(bytes.as_mut_slice(), SIZE);
+            let mut panel = ModulePanel::new(&mut bytes, SIZE);
             on_panel(rt, &mut panel, call)
         }
         Kind::Window => {
             let mut cells = vec![in rt.alloc(); ERASED; 2210]?;
-            let mut below = ListPanel::new(cells.as_mut_slice(), BELOW);
+            let mut below = ListPanel::new(&mut cells, BELOW);
             on_window(rt, &mut below, call)
         }
     }
@@ -58,14 +58,14 @@ fn on_panel<P: Panel>(rt: &HostRuntime, panel: &mut P, call: &Call) -> Result<()
     match call.pass {
         Pass::Deliver => {
             for _ in 0..call.times {
-                deliver_all(&mut page, panel, call.bytes.as_slice())?;
+                deliver_all(&mut page, panel, &call.bytes)?;
             }
         }
         Pass::Picture => {
-            deliver_all(&mut page, panel, call.bytes.as_slice())?;
+            deliver_all(&mut page, panel, &call.bytes)?;
             let mut buffer = vec![in rt.alloc(); 0; ROOM]?;
             for _ in 0..call.times {
-                let _ = picture(&page, panel, buffer.as_mut_slice())?;
+                let _ = picture(&page, panel, &mut buffer)?;
             }
         }
     }

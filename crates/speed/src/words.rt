@@ -101,10 +101,10 @@ pub(crate) fn called(rt: &HostRuntime) -> Result<Call, Failure> {
     ) else {
         return Err(Failure::Usage);
     };
-    let times = times.as_str().parse::<u32>().map_err(|_| Failure::Usage)?;
-    let pass = pass.as_str().parse()?;
-    let kind = kind.as_str().parse()?;
-    let bytes = fs::read(rt, path.as_str())?;
+    let times = times.parse::<u32>().map_err(|_| Failure::Usage)?;
+    let pass = pass.parse()?;
+    let kind = kind.parse()?;
+    let bytes = fs::read(rt, &path)?;
     Ok(Call {
         pass,
         kind,

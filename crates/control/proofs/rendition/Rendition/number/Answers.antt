@@ -16,7 +16,8 @@ use Rattle.control.specs.declared.rendition.Colour.TheVariants.{Default, Black, 
 use Rattle.control.specs.Renditions.{of_intensity, of_underline, of_blink, of_flag, of_colour}
 use Rattle.control.proofs.rendition.Rendition.number.Goals as goal
 
--- a variant's number is its place among the variants
+-- a variant's number is its place among the variants; tag_of and bool_byte, what `as u16` and `u16::from` are, are the checker's own words,
+-- of which the library has no lemma
 place_intensity : (x : Intensity) → tag_of intensity.the_type x ≡ of_intensity x
 place_intensity Normal = refl
 place_intensity Bold = refl

@@ -7,6 +7,7 @@ use Rattle.panel.proofs.Places.{located_run, goes_on}
 use Rattle.panel.proofs.Listed.{list_room, list_wiped}
 use Rattle.panel.proofs.list.ListPanelPanel.erase.Goals as goal
 
+-- put_mid is the checker's own word for a slice of which a part was written: the library's lemmas say it in other words than wiped
 pub returns-clause-after : goal.returns-clause-after
 returns-clause-after c =
     let p = c.args.self.now in
