@@ -57,6 +57,9 @@ located_at g z line column k p e =
     let v = h.1 in
     record { test = h.0; is = v; low = rw (← v) (index_lt g.lines g.columns line column (within_true _ _ _ _ h.0)) }
 
+pub indexed_at : (g : Grid) (z : Size) (line column k : ℕ) → z ≡ size_of g → true ≡ within z.lines z.columns line column → k ≡ index_in z.columns line column → At g line column k
+indexed_at g z line column k p t e = located_at g z line column k p (ap Some e ∙ ap (λ b. cond b (Some (index_in z.columns line column)) None) t)
+
 pub located_run : (g : Grid) (z : Size) (line column count k : ℕ) → z ≡ size_of g → Some k ≡ run_located z line column count → Run g line column count k
 located_run g z line column count k p e =
     let h = found (run_on g line column count) (index g line column) k (rw p at e) in

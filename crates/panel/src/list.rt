@@ -55,19 +55,20 @@ impl Panel for ListPanel<'_> {
     }
 
     fn cell(&self, at: Position) -> Result<Cell, Refusal> {
-        // Not by `ok_or(..)?`, nor in `set`: shifts of a list panel then took half as long again.
-        let Some(k) = self.size.find(at) else {
-            return Err(at.outside());
-        };
-        Ok(self.cells[k])
+        if self.size.has(at) {
+            Ok(self.cells[self.size.index(at)])
+        } else {
+            Err(at.outside())
+        }
     }
 
     fn set(&mut self, at: Position, cell: Cell) -> Result<(), Refusal> {
-        let Some(k) = self.size.find(at) else {
-            return Err(at.outside());
-        };
-        self.cells[k] = cell;
-        Ok(())
+        if self.size.has(at) {
+            self.cells[self.size.index(at)] = cell;
+            Ok(())
+        } else {
+            Err(at.outside())
+        }
     }
 
     fn erase(&mut self, from: Position, count: usize) -> Result<(), Refusal> {

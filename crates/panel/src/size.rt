@@ -1,6 +1,6 @@
 // A size, the lines and columns within it, and the index of each in reading order: how many cells come before it.
-ghost use Rattle.std.specs.Prelude.{◌≡◌, ◌*◌, if◌then◌else◌};
-ghost use Rattle.panel.specs.Grids.{within, no_grid, size_of};
+ghost use Rattle.std.specs.Prelude.{◌≡◌, ◌*◌, true, if◌then◌else◌};
+ghost use Rattle.panel.specs.Grids.{within, index_in, no_grid, size_of};
 ghost use Rattle.panel.specs.Copies.{part_within};
 ghost use Rattle.panel.specs.Places.{located, run_located};
 ghost use Rattle.panel.specs.Memories.{fitting, roomy};
@@ -39,13 +39,21 @@ impl Size {
         (1..=self.lines).contains(&at.line) && (1..=self.columns).contains(&at.column)
     }
 
-    // The index of a line and column.
+    // The index of a line and column within it.
+    pub(crate) fn index(self, at: Position) -> usize
+        requires { within self.lines self.columns at.line at.column ≡ true }
+        ensures { result ≡ index_in self.columns at.line at.column }
+    {
+        (at.line as usize - 1) * self.columns as usize + (at.column as usize - 1)
+    }
+
+    // The index of a line and column, if they are within the size.
     pub fn find(self, at: Position) -> Option<usize>
         ensures { result ≡ located self at.line at.column }
     {
-        // Not by `then`: for its subtractions the closure would need a contract of its own.
+        // Not by `then`: the closure would need a contract of its own.
         if self.has(at) {
-            Some((at.line as usize - 1) * self.columns as usize + (at.column as usize - 1))
+            Some(self.index(at))
         } else {
             None
         }
