@@ -1,5 +1,5 @@
 // Bytes as a cable hands them over, and an account of them.
-use page::page::Page;
+use crate::console::Console;
 use panel::Panel;
 use refusal::Refusal;
 
@@ -10,14 +10,9 @@ pub struct Account {
     pub requests: usize,
 }
 
-pub(crate) fn is_owing(page: &Page) -> bool {
-    page.view().is_some_and(|view| view.owed.is_some())
-}
-
 // Delivers a piece. No reply is sent yet: one that is owed counts as sent when more bytes come, so that these go on.
 pub(crate) fn send<P: Panel>(
-    page: &mut Page,
-    panel: &mut P,
+    console: &mut Console<P>,
     account: &mut Account,
     piece: &[u8],
 ) -> Result<(), Refusal> {
@@ -27,10 +22,10 @@ pub(crate) fn send<P: Panel>(
         if rest.is_empty() {
             break;
         }
-        page.settle();
-        let taken = page.deliver(panel, rest)?.taken.min(rest.len());
+        console.page.settle();
+        let taken = console.deliver(rest)?.min(rest.len());
         account.taken = account.taken.saturating_add(taken);
-        if is_owing(page) {
+        if console.is_owing() {
             account.requests = account.requests.saturating_add(1);
         }
         rest = rest.split_at(taken).1;

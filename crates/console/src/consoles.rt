@@ -1,11 +1,12 @@
 // Two consoles: one in the tower, on a module panel, and one for practice, on a window over a list panel. Halfway the second takes a
 // picture of the first and goes on as its equal; both take the rest of the stream, cut differently, and are compared at the end.
 use crate::call::Failure;
+use crate::console::Console;
 use crate::frame::Look;
 use crate::recorded::PARTS;
 use crate::{frame, refused, transcripts};
-use page::page::Page;
-use panel::{ERASED, Lent, ListPanel, ModulePanel, Panel, Rectangle, Size, Window};
+use panel::{ERASED, ListPanel, ModulePanel, Panel, Rectangle, Size, Window};
+use refusal::Refusal;
 use turns::comparing::same_pages;
 use turns::copying::copy_page;
 use turns::running::run_turns;
@@ -37,102 +38,117 @@ const ROOM: usize = 2048;
 pub(crate) fn run(rt: &HostRuntime) -> Result<(), Failure> {
     rt.println("\nTwo consoles")?;
     let mut bytes = [0; 432];
-    let mut tower = ModulePanel::new(&mut bytes, SIZE);
+    let mut tower = Console::on(ModulePanel::new(&mut bytes, SIZE));
     let mut cells = [ERASED; 224];
-    let mut below = ListPanel::new(
+    let below = ListPanel::new(
         &mut cells,
         Size {
             lines: 8,
             columns: 28,
         },
     );
-    over_window(rt, &mut tower, &mut below)
+    let mut practice = Console::on(Window::new(below, FRAME));
+    play(rt, &mut tower, &mut practice)
 }
 
-fn over_window<P: Panel, Q: Panel>(
+fn play<P: Panel, Q: Panel>(
     rt: &HostRuntime,
-    tower: &mut P,
-    below: &mut Q,
+    tower: &mut Console<P>,
+    practice: &mut Console<Q>,
 ) -> Result<(), Failure> {
-    let mut practice = Window::new(Lent::new(below), FRAME);
-    let mut one = Page::new();
-    let mut other = Page::new();
-    one.start(tower)?;
-    other.start(&mut practice)?;
-    begin(rt, &mut one, tower, &mut other, &mut practice)?;
-    copy(rt, &one, tower, &mut other, &mut practice)?;
-    go_on(rt, &mut one, tower, &mut other, &mut practice)?;
-    compare(rt, &one, tower, &other, &practice)
+    tower.start()?;
+    practice.start()?;
+    begin(rt, tower, practice)?;
+    copy(rt, tower, practice)?;
+    go_on(rt, tower, practice)?;
+    compare(rt, tower, practice)
 }
 
 // The first two parts go to the tower; the practice console is in the middle of something of its own.
 fn begin<P: Panel, Q: Panel>(
     rt: &HostRuntime,
-    one: &mut Page,
-    tower: &mut P,
-    other: &mut Page,
-    practice: &mut Q,
+    tower: &mut Console<P>,
+    practice: &mut Console<Q>,
 ) -> Result<(), Failure> {
     let heap = rt.alloc();
     let list = transcripts::list_of(heap, &PARTS[0..2], BEFORE)?;
-    let transcript = run_turns(heap, one, tower, &list)?;
+    let transcript = run_turns(heap, &mut tower.page, &mut tower.panel, &list)?;
     transcripts::print(rt, "tower", &transcript)?;
-    let _ = other.deliver(practice, b"PRACTICE\x1b[3;")?;
-    refused::show_unfinished(rt, other, practice)
+    let _ = practice.deliver(b"PRACTICE\x1b[3;")?;
+    refused::show_unfinished(rt, practice)
 }
 
+// The practice console takes a picture of the tower's.
 fn copy<P: Panel, Q: Panel>(
     rt: &HostRuntime,
-    one: &Page,
-    tower: &P,
-    other: &mut Page,
-    practice: &mut Q,
+    tower: &Console<P>,
+    practice: &mut Console<Q>,
 ) -> Result<(), Failure> {
     let mut short = [0; 20];
     print!(rt; "A copy through a buffer of 20 bytes: ")?;
-    match copy_page(one, tower, other, practice, &mut short) {
+    match copy_to(tower, practice, &mut short) {
         Ok(length) => println!(rt; "a picture of {length} bytes")?,
         Err(refusal) => refused::print(rt, refusal)?,
     }
     let mut buffer = vec![in rt.alloc(); 0; ROOM]?;
-    let length = copy_page(one, tower, other, practice, &mut buffer)?;
+    let length = copy_to(tower, practice, &mut buffer)?;
     println!(rt; "The practice console takes a picture of {length} bytes")?;
-    frame::print_panel(rt, practice, Look::Plain)
+    frame::print_panel(rt, &practice.panel, Look::Plain)
+}
+
+fn copy_to<P: Panel, Q: Panel>(
+    from: &Console<P>,
+    to: &mut Console<Q>,
+    buffer: &mut [u8],
+) -> Result<usize, Refusal> {
+    copy_page(&from.page, &from.panel, &mut to.page, &mut to.panel, buffer)
 }
 
 // The other parts go to both, cut differently.
 fn go_on<P: Panel, Q: Panel>(
     rt: &HostRuntime,
-    one: &mut Page,
-    tower: &mut P,
-    other: &mut Page,
-    practice: &mut Q,
+    tower: &mut Console<P>,
+    practice: &mut Console<Q>,
 ) -> Result<(), Failure> {
     let heap = rt.alloc();
     let list = transcripts::list_of(heap, &PARTS[2..3], AFTER_IN_TOWER)?;
     let other_list = transcripts::list_of(heap, &PARTS[2..3], AFTER_IN_PRACTICE)?;
-    let (first, second) = run_two(heap, one, tower, &list, other, practice, &other_list)?;
+    let (first, second) = run_two(
+        heap,
+        &mut tower.page,
+        &mut tower.panel,
+        &list,
+        &mut practice.page,
+        &mut practice.panel,
+        &other_list,
+    )?;
     transcripts::print(rt, "tower", &first)?;
     transcripts::print(rt, "practice", &second)
 }
 
 fn compare<P: Panel, Q: Panel>(
     rt: &HostRuntime,
-    one: &Page,
-    tower: &P,
-    other: &Page,
-    practice: &Q,
+    tower: &Console<P>,
+    practice: &Console<Q>,
 ) -> Result<(), Failure> {
     rt.println("In the tower")?;
-    frame::print_panel(rt, tower, Look::Plain)?;
+    frame::print_panel(rt, &tower.panel, Look::Plain)?;
     rt.println("At practice")?;
-    frame::print_panel(rt, practice, Look::Plain)?;
+    frame::print_panel(rt, &practice.panel, Look::Plain)?;
     let mut first = vec![in rt.alloc(); 0; ROOM]?;
     let mut second = vec![in rt.alloc(); 0; ROOM]?;
-    if same_pages(one, tower, other, practice, &mut first, &mut second)? {
-        rt.println("The two are equal")?;
+    let equal = same_pages(
+        &tower.page,
+        &tower.panel,
+        &practice.page,
+        &practice.panel,
+        &mut first,
+        &mut second,
+    )?;
+    rt.println(if equal {
+        "The two are equal"
     } else {
-        rt.println("The two differ")?;
-    }
+        "The two differ"
+    })?;
     Ok(())
 }

@@ -8,6 +8,7 @@
 
 mod cable;
 mod call;
+mod console;
 mod consoles;
 mod frame;
 mod items;

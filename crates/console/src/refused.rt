@@ -1,6 +1,6 @@
 // Calls that are refused, shown with the refusal.
 use crate::call::Failure;
-use page::page::Page;
+use crate::console::Console;
 use panel::Panel;
 use picture::{picture, reply, write_control};
 use refusal::Refusal;
@@ -20,17 +20,16 @@ fn print_answer(rt: &HostRuntime, answer: Result<usize, Refusal>) -> Result<(), 
     }
 }
 
-// A page whose reader is in the middle of something, and that owes nothing.
+// Of a page whose reader is in the middle of something, and that owes nothing.
 pub(crate) fn show_unfinished<P: Panel>(
     rt: &HostRuntime,
-    page: &mut Page,
-    panel: &P,
+    console: &mut Console<P>,
 ) -> Result<(), Failure> {
     let mut buffer = [0; 64];
     print!(rt; "A picture in the middle of a sequence: ")?;
-    print_answer(rt, picture(page, panel, &mut buffer))?;
+    print_answer(rt, picture(&console.page, &console.panel, &mut buffer))?;
     print!(rt; "A reply that nobody asked for: ")?;
-    print_answer(rt, reply(page, &mut buffer))?;
+    print_answer(rt, reply(&mut console.page, &mut buffer))?;
     print!(rt; "ESC alone, written: ")?;
     print_answer(rt, write_control(0x1B, &mut buffer))
 }

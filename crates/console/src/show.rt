@@ -1,11 +1,11 @@
 // The command `show`: a page on a panel is delivered the bytes of a file, and the panel is shown.
 use crate::cable::Account;
 use crate::call::Failure;
+use crate::console::Console;
 use crate::frame::Look;
 use crate::kinds::{Kind, OnPanel};
 use crate::{cable, frame, kinds};
-use page::page::Page;
-use panel::{Panel, Size};
+use panel::{Lent, Panel, Size};
 use std::fs;
 
 #[derive(Drop)]
@@ -28,14 +28,14 @@ struct Bytes<'a> {
 
 impl OnPanel for Bytes<'_> {
     fn run<P: Panel>(&self, rt: &HostRuntime, panel: &mut P) -> Result<(), Failure> {
-        let mut page = Page::new();
-        page.start(panel)?;
+        let mut console = Console::on(Lent::new(panel));
+        console.start()?;
         let mut account = Account::default();
         for piece in self.bytes.chunks(PIECE) {
-            cable::send(&mut page, panel, &mut account, piece)?;
+            cable::send(&mut console, &mut account, piece)?;
         }
-        frame::print_panel(rt, panel, self.look)?;
-        frame::print_below(rt, &page, account)
+        frame::print_panel(rt, &console.panel, self.look)?;
+        frame::print_below(rt, &console.page, account)
     }
 }
 

@@ -2,11 +2,11 @@
 // bytes as they are read, and a small panel with its memory.
 use crate::cable::Account;
 use crate::call::Failure;
+use crate::console::Console;
 use crate::frame::Look;
 use crate::kinds::Kind;
 use crate::recorded::PARTS;
 use crate::{cable, consoles, frame, items, panel_shown};
-use page::page::Page;
 use panel::{ModulePanel, Panel, Position, Size};
 use std::alloc::AllocError;
 
@@ -19,49 +19,48 @@ const SIZE: Size = Size {
 const PIECE: usize = 5;
 
 pub(crate) fn run(rt: &HostRuntime) -> Result<(), Failure> {
-    let mut page = Page::new();
-    refuse_sizes(rt, &mut page)?;
+    refuse_size(rt)?;
     let mut memory = [0; 432];
-    let mut panel = ModulePanel::new(&mut memory, SIZE);
-    show_parts(rt, &mut page, &mut panel)?;
+    let mut console = Console::on(ModulePanel::new(&mut memory, SIZE));
+    show_parts(rt, &mut console)?;
     consoles::run(rt)?;
     read_parts(rt)?;
     call_panel(rt)
 }
 
 // A start on more lines than a page has, which the memory would hold.
-fn refuse_sizes(rt: &HostRuntime, page: &mut Page) -> Result<(), Failure> {
+fn refuse_size(rt: &HostRuntime) -> Result<(), Failure> {
     let mut memory = [0; 195];
-    let mut panel = ModulePanel::new(
+    let mut console = Console::on(ModulePanel::new(
         &mut memory,
         Size {
             lines: 65,
             columns: 1,
         },
-    );
+    ));
     print!(rt; "Start on a panel of 65 lines: ")?;
-    match page.start(&mut panel) {
+    match console.start() {
         Ok(()) => rt.println("accepted")?,
         Err(refusal) => println!(rt; "refused {refusal}")?,
     }
     Ok(())
 }
 
-fn show_parts<P: Panel>(rt: &HostRuntime, page: &mut Page, panel: &mut P) -> Result<(), Failure> {
-    try_delivery(rt, page, panel, b"A")?;
-    page.start(panel)?;
+fn show_parts<P: Panel>(rt: &HostRuntime, console: &mut Console<P>) -> Result<(), Failure> {
+    try_delivery(rt, console, b"A")?;
+    console.start()?;
     let Size { lines, columns } = SIZE;
     println!(rt; "Start on a panel of {lines} lines and {columns} columns: accepted")?;
     let long = [b'A'; 4097];
-    try_delivery(rt, page, panel, &long)?;
+    try_delivery(rt, console, &long)?;
     for (name, bytes) in PARTS {
-        show_part(rt, page, panel, name, bytes)?;
-        if cable::is_owing(page) {
-            try_delivery(rt, page, panel, b"A")?;
+        show_part(rt, console, name, bytes)?;
+        if console.is_owing() {
+            try_delivery(rt, console, b"A")?;
         }
     }
     print!(rt; "The cell at line 7, column 1: ")?;
-    match panel.cell(Position { line: 7, column: 1 }) {
+    match console.panel.cell(Position { line: 7, column: 1 }) {
         Ok(_) => rt.println("there")?,
         Err(refusal) => println!(rt; "refused {refusal}")?,
     }
@@ -70,13 +69,12 @@ fn show_parts<P: Panel>(rt: &HostRuntime, page: &mut Page, panel: &mut P) -> Res
 
 fn try_delivery<P: Panel>(
     rt: &HostRuntime,
-    page: &mut Page,
-    panel: &mut P,
+    console: &mut Console<P>,
     bytes: &[u8],
 ) -> Result<(), Failure> {
     let length = bytes.len();
     print!(rt; "Delivery of length {length}: ")?;
-    match page.deliver(panel, bytes) {
+    match console.deliver(bytes) {
         Ok(_) => rt.println("accepted")?,
         Err(refusal) => println!(rt; "refused {refusal}")?,
     }
@@ -85,18 +83,17 @@ fn try_delivery<P: Panel>(
 
 fn show_part<P: Panel>(
     rt: &HostRuntime,
-    page: &mut Page,
-    panel: &mut P,
+    console: &mut Console<P>,
     name: &str,
     bytes: &[u8],
 ) -> Result<(), Failure> {
     let mut account = Account::default();
     for piece in bytes.chunks(PIECE) {
-        cable::send(page, panel, &mut account, piece)?;
+        cable::send(console, &mut account, piece)?;
     }
     println!(rt; "\n{name}")?;
-    frame::print_panel(rt, panel, Look::Plain)?;
-    frame::print_below(rt, page, account)
+    frame::print_panel(rt, &console.panel, Look::Plain)?;
+    frame::print_below(rt, &console.page, account)
 }
 
 // The same bytes as the reader reads them.
