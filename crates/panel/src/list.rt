@@ -1,5 +1,6 @@
 // The list panel: cells that are lent, line by line.
-ghost use Rattle.std.specs.Prelude.{◌≡◌, ◌*◌, ◌≤◌, length};
+ghost use Rattle.std.specs.Prelude.{◌≡◌, ◌+◌, ◌*◌, ◌≤◌, length, replicate};
+ghost use Rattle.panel.specs.Grids.{erased, wiped};
 
 use crate::{Cell, ERASED, NO_SIZE, Panel, Position, Size};
 use refusal::Refusal;
@@ -13,6 +14,22 @@ pub struct ListPanel<'a> {
     ghost few_lines: { size.lines ≤ 64 },
     ghost few_columns: { size.columns ≤ 132 },
     ghost room: { size.lines * size.columns ≤ length cells.now },
+}
+
+// Erases each cell.
+fn fill(cells: &mut [Cell])
+    ensures { cells.new ≡ replicate (length cells.old) erased }
+{
+    cells.fill(ERASED);
+}
+
+// Erases `count` cells from the index `at`, and no other. It is a rule of the panel that its cells are lent as a whole to one function,
+// which lends the middle of them to another: what is filled reaches no other cell.
+fn fill_run(cells: &mut [Cell], at: usize, count: usize)
+    requires { at + count ≤ length cells.old }
+    ensures { cells.new ≡ wiped cells.old at count }
+{
+    fill(&mut cells[at..at + count]);
 }
 
 // Without lines and columns, on no memory.
@@ -73,12 +90,13 @@ impl Panel for ListPanel<'_> {
 
     fn erase(&mut self, from: Position, count: usize) -> Result<(), Refusal> {
         let k = self.size.find_run(from, count).ok_or(from.outside())?;
-        self.cells[k..k + count].fill(ERASED);
+        fill_run(self.cells, k, count);
         Ok(())
     }
 
     fn copy(&mut self, from: Position, to: Position, count: u16) -> Result<(), Refusal> {
-        // In the call's own hands nothing else reaches the panel: its size need not be looked at again after each cell.
+        // By `cell` and `set`, one cell at a time, and not by `copy_within`: a rule of this panel. In the call's own hands nothing else
+        // reaches it, so that its size need not be looked at again after each cell.
         let mut panel = take(self);
         let answer = panel.copy_cells(from, to, count);
         *self = panel;
