@@ -1,10 +1,14 @@
--- No item is empty.
-use Rattle.std.proofs.Common.{◌≡◌, ℕ, ◌<◌, List, [], ◌∷◌, ◌++◌, length, sym, ap, ◌∙◌, subst, inl, inr, arith}
+-- One step of the walk along bytes.
+use Rattle.std.proofs.Common.{◌≡◌, ℕ, ◌+◌, ◌-◌, ◌<◌, List, [], ◌∷◌, ◌++◌, length, take, drop, sym, ap, ◌∙◌, subst, inl, inr, arith, length-append, drop-drop}
+use Rattle.std.proofs.Math.Seq.{take-append_seam, drop-append_seam}
+use Rattle.reader.specs.declared.item.Item.{Item}
 use Rattle.reader.specs.declared.item.Kind.{Kind}
 use Rattle.reader.specs.declared.item.Kind.TheVariants.{Text, Control, Escape, Sequence, String, Broken, Rest}
 use Rattle.reader.specs.Items as item
 use Rattle.reader.specs.Items.{Spells, Begun, Form}
+use Rattle.reader.specs.Walks.{Handed, Leads, spelling}
 
+-- no item is empty
 spelled_some : (k : ℕ) (z c x : List ℕ) → Spells k c → z ≡ c ++ x → 0 < length z
 spelled_some k z c x (inl s) e = subst (λ (y : List ℕ). 0 < length y) (sym (e ∙ ap (λ (d : List ℕ). d ++ x) s)) (omega arith)
 spelled_some k z c x (inr s) e = subst (λ (y : List ℕ). 0 < length y) (sym (e ∙ ap (λ (d : List ℕ). d ++ x) s)) (omega arith)
@@ -28,3 +32,19 @@ item_some String x t (inr f) = spelled_some f.by x f.opener _ f.opens f.spelled
 item_some Broken x t f = begun_some x f.0
 item_some Rest x t (e, inl f) = begun_some x f
 item_some Rest x t (e, inr f) = spelled_some f.by x f.opener _ f.opens f.spelled
+
+-- what is cut off the front of what is left is handed out
+pub handed : (bs left after : List ℕ) (from n : ℕ) (i : Item) → left ≡ drop from bs → Leads i.kind left after → n ≡ length left - length after → spelling i ≡ take n left → i.place ≡ from → Handed bs from (from + n) i
+handed bs left after from n i at v len part place =
+    let x = v.0 in
+    let long : length x ≡ n = omega (arith, simp length-append at (ap length v.1)) in
+    let is_x : spelling i ≡ x = part ∙ ap (λ (m : ℕ). take m left) (sym long) ∙ ap (take (length x)) (sym v.1) ∙ take-append_seam x after in
+    let is_after : drop (from + n) bs ≡ after = sym (drop-drop n from bs) ∙ ap (drop n) (sym at) ∙ ap (λ (m : ℕ). drop m left) (sym long) ∙ ap (drop (length x)) (sym v.1) ∙ drop-append_seam x after in
+    let form : Form i.kind (spelling i) (drop (from + n) bs) = subst (λ (y : List ℕ). Form i.kind y (drop (from + n) bs)) (sym is_x) (subst (Form i.kind x) (sym is_after) v.2) in
+    record {
+      place = place;
+      part = (λ j. is_x j ++ is_after j) ∙ v.1 ∙ at;
+      on = ap (λ (m : ℕ). from + m) (sym long ∙ ap length (sym is_x));
+      some = item_some i.kind (spelling i) _ form;
+      form = form;
+    }

@@ -23,8 +23,8 @@ part_of i = record { kind = i.kind; place = i.place; bytes = spelling i }
 
 -- the items that came to the end are all of the bytes, in order
 pub gives_cut : (s t u : Items) (is : List Item) → Yields GivesItem s is t → GivesItem t None u → Cut s.place (map part_of is) (drop s.place s.bytes.now)
-gives_cut s t u [] e (same, end) = subst (λ (s : Items). drop s.place s.bytes.now ≡ []) (sym e) (ap (λ (n : ℕ). drop n t.bytes.now) end.ends ∙ drop-length t.bytes.now)
-gives_cut s t u (i ∷ is) (j, (same, h), more) end =
+gives_cut s t u [] e (same, end, _) = subst (λ (s : Items). drop s.place s.bytes.now ≡ []) (sym e) (ap (λ (n : ℕ). drop n t.bytes.now) end.ends ∙ drop-length t.bytes.now)
+gives_cut s t u (i ∷ is) (j, (same, h, _), more) end =
     let others : Cut j.place (map part_of is) (drop j.place s.bytes.now) = subst (λ (bs : List ℕ). Cut j.place (map part_of is) (drop j.place bs)) same (gives_cut j t u is more end) in
     (h.place, drop j.place s.bytes.now, sym h.part, h.form, subst (λ (n : ℕ). Cut n (map part_of is) (drop j.place s.bytes.now)) h.on others)
 

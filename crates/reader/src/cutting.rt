@@ -178,6 +178,7 @@ impl<'a> Iterator for Items<'a> {
     ghost remaining = { λ items. at_most (bytes_left items) };
 
     // The next item, or none at the end of the bytes.
+    #[tactic(auto, using(crate::proofs::Grammar::items_perform))]
     fn next(&mut self) -> Option<Item<'a>> {
         let bytes = self.bytes;
         let place = self.place;
