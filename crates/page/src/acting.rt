@@ -1,6 +1,6 @@
 // What bytes do to a page and its panel.
-ghost use Rattle.std.specs.Prelude.{◌≡◌, ◌≤◌, Some};
-ghost use Rattle.reader.specs.Meaning.{function_of};
+ghost use Rattle.std.specs.Prelude.{◌≡◌, ◌≤◌, Some, is_some};
+ghost use Rattle.reader.specs.Meaning.{function_of, functions_of};
 ghost use Rattle.reader.specs.Steps.{step as steps};
 ghost use Rattle.page.specs.Sheets.{state_of, owing, reading};
 ghost use Rattle.page.specs.Acts.{Acts};
@@ -14,7 +14,7 @@ use control::function::{Control, Report};
 use control::modes::Modes;
 use control::rendition::Rendition;
 use panel::{Direction, Panel, Position, Size, clear};
-use reader::function::Function;
+use reader::function::{Completed, Function};
 use reader::reader::Reader;
 use reader::standing::Standing;
 
@@ -64,6 +64,28 @@ impl State {
         self.owed = Some(report);
     }
 
+    // Where its reader stands. This and the two that follow are methods, since no proof follows a sheet of whose lent state a part is lent.
+    fn standing(&self) -> Standing
+        ensures { result ≡ self.now.reader.standing }
+    {
+        self.reader.standing()
+    }
+
+    // Whether a reply is owed.
+    pub(crate) fn is_owing(&self) -> bool
+        ensures { result ≡ is_some self.now.owed }
+    {
+        self.owed.is_some()
+    }
+
+    // A byte, and what it completes.
+    fn read(&mut self, byte: u8) -> Completed
+        ensures reads { state_of self.new ≡ reading (steps (state_of self.old).standing byte).standing (state_of self.old) }
+        ensures completes { functions_of result ≡ (steps (state_of self.old).standing byte).performs }
+    {
+        self.reader.step(byte)
+    }
+
     // A byte that completes nothing.
     fn pass(&mut self, byte: u8)
         ensures { state_of self.new ≡ reading (steps (state_of self.old).standing byte).standing (state_of self.old) }
@@ -72,13 +94,13 @@ impl State {
     }
 }
 
-impl<P: Panel> Sheet<P> {
+impl<P: Panel> Sheet<'_, P> {
     // RIS: every cell is erased, and the page begins anew.
     fn reset(&mut self)
         ensures { Acts P.Panel.shows (λ x. begun x.grid) self.old self.new }
     {
         clear(&mut self.panel);
-        self.state = State::new(self.state.size);
+        *self.state = State::new(self.state.size);
     }
 
     // A control function, with the values of the sequence that selects it.
@@ -138,7 +160,7 @@ impl<P: Panel> Sheet<P> {
     fn complete(&mut self, byte: u8)
         ensures { Acts P.Panel.shows (λ x. stepped x byte) self.old self.new }
     {
-        if let Some(function) = self.state.reader.step(byte).function {
+        if let Some(function) = self.state.read(byte).function {
             self.perform(&function);
         }
     }
@@ -148,7 +170,7 @@ impl<P: Panel> Sheet<P> {
     pub(crate) fn step(&mut self, byte: u8)
         ensures { Acts P.Panel.shows (λ x. stepped x byte) self.old self.new }
     {
-        match (self.state.reader.standing(), byte) {
+        match (self.state.standing(), byte) {
             (Standing::Rest, 0x20..=0x7E | 0xA0..=0xFF) => self.character(byte),
             (Standing::Sequence { .. }, 0x30..=0x3F) => self.state.pass(byte),
             _ => self.complete(byte),

@@ -46,7 +46,7 @@ impl State {
     }
 }
 
-impl<P: Panel> Sheet<P> {
+impl<P: Panel> Sheet<'_, P> {
     pub(crate) fn insert_characters(&mut self, n: u16)
         ensures { Acts P.Panel.shows (insert_characters n) self.old self.new }
     {

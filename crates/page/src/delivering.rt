@@ -17,17 +17,17 @@ use crate::view::{Delivered, View};
 use panel::{Lent, Panel, clear};
 use refusal::Refusal;
 
-impl<P: Panel> Sheet<P> {
+impl<P: Panel> Sheet<'_, P> {
     // Lets bytes act, through the first that makes a reply owed, and counts them. Their number has no bound.
     fn feed(&mut self, bytes: &[u8]) -> usize
-        requires { is_some self.old.state.owed ≡ false }
-        ensures count { result ≡ until_request (state_of self.old.state).standing bytes.now }
+        requires { is_some self.old.state.now.owed ≡ false }
+        ensures count { result ≡ until_request (state_of self.old.state.now).standing bytes.now }
         ensures after { Acts P.Panel.shows (λ x. run x (taken_at x.state.standing bytes.now)) self.old self.new }
     {
         // A loop, since no proof follows a chain whose closure changes the sheet.
         for (i, byte) in bytes.iter().enumerate() {
             self.step(*byte);
-            if self.state.owed.is_some() {
+            if self.state.is_owing() {
                 return i + 1;
             }
         }
@@ -67,7 +67,7 @@ impl Page {
         ensures parts { DeliversInParts }
         ensures items { ShowsItems }
     {
-        let Some(state) = self.state else {
+        let Some(state) = &mut self.state else {
             return Err(Refusal::OtherPanel);
         };
         if state.size != panel.size() {
@@ -84,7 +84,6 @@ impl Page {
             panel: Lent::new(panel),
         };
         let taken = sheet.feed(bytes);
-        self.state = Some(sheet.state);
         Ok(Delivered { taken })
     }
 

@@ -26,11 +26,11 @@ impl State {
     }
 }
 
-impl<P: Panel> Sheet<P> {
+impl<P: Panel> Sheet<'_, P> {
     pub(crate) fn erase_in_page(&mut self, extent: Extent)
         ensures { Acts P.Panel.shows (erase_in_page extent) self.old self.new }
     {
-        let state = &self.state;
+        let state = &*self.state;
         let start = Position { line: 1, column: 1 };
         let _ = match extent {
             Extent::ToEnd => self
@@ -44,7 +44,7 @@ impl<P: Panel> Sheet<P> {
     pub(crate) fn erase_in_line(&mut self, extent: Extent)
         ensures { Acts P.Panel.shows (erase_in_line extent) self.old self.new }
     {
-        let state = &self.state;
+        let state = &*self.state;
         let Position { line, column } = state.position;
         let start = Position { line, column: 1 };
         let _ = match extent {
