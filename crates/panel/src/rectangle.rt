@@ -13,11 +13,12 @@ pub struct Rectangle {
     pub columns: u16,
 }
 
-// Whether some lines, or columns, from a first one on are at least one, and end inside.
+// Whether some lines, or columns, from a first one on are at least one, and end inside. By `&`, here and below: a window asks this at each
+// call, and with `&&` the compiler leaves the question in a loop over its cells, which then takes two to three times as long.
 fn part_of(all: u16, first: u16, count: u16) -> bool
     ensures { result ≡ part_of all first count }
 {
-    1 <= first && 1 <= count && first as u32 + count as u32 <= all as u32 + 1
+    (1 <= first) & (1 <= count) & (first as u32 + count as u32 <= all as u32 + 1)
 }
 
 impl Rectangle {
@@ -25,7 +26,7 @@ impl Rectangle {
     pub fn is_inside(self, size: Size) -> bool
         ensures { result ≡ inside size.lines size.columns self }
     {
-        part_of(size.lines, self.top, self.lines) && part_of(size.columns, self.left, self.columns)
+        part_of(size.lines, self.top, self.lines) & part_of(size.columns, self.left, self.columns)
     }
 
     // The size of a panel that shows just it.

@@ -46,6 +46,22 @@ impl<P: Panel> Window<P> {
         }
     }
 
+    // Where a cell of the window stands below. Not `part_below` of one cell: that asks once more for the line's end, and a loop over a
+    // window's cells, tried, took a fifth to a third more instructions.
+    fn cell_below(&self, at: Position) -> Option<Position>
+        ensures { result ≡ part_beneath (framed (P.Panel.shows self.now.below).grid.lines (P.Panel.shows self.now.below).grid.columns self.now.frame) at 1 }
+    {
+        let f = self.shown();
+        if f.size().has(at) {
+            Some(Position {
+                line: f.top + (at.line - 1),
+                column: f.left + (at.column - 1),
+            })
+        } else {
+            None
+        }
+    }
+
     // Where some cells of a line of the window begin below: there too they are cells of a line. Not by `then`, as in `Size::find`: for
     // its subtractions the closure would need a contract of its own.
     fn part_below(&self, from: Position, count: u16) -> Option<Position>
@@ -93,12 +109,12 @@ impl<P: Panel> Panel for Window<P> {
     }
 
     fn cell(&self, at: Position) -> Result<Cell, Refusal> {
-        let place = self.part_below(at, 1).ok_or(at.outside())?;
+        let place = self.cell_below(at).ok_or(at.outside())?;
         self.below.cell(place)
     }
 
     fn set(&mut self, at: Position, cell: Cell) -> Result<(), Refusal> {
-        let place = self.part_below(at, 1).ok_or(at.outside())?;
+        let place = self.cell_below(at).ok_or(at.outside())?;
         self.below.set(place, cell)
     }
 

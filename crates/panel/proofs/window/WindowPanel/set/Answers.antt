@@ -9,4 +9,4 @@ returns-clause-after g c =
     let w = c.args.self.now in
     let s = g.P.Panel.shows w.below in
     let h = g.P.Panel.sound w.below in
-    ap (λ z. windowed z w.frame) c.set.ensures.after ∙ windowed_set s h w.frame _ _ (goes_on _ _ _ c.in_ok-place.was c.ok_or.ensures.ok_part ∙ c.part_below.ensures) _
+    ap (λ z. windowed z w.frame) c.set.ensures.after ∙ windowed_set s h w.frame _ _ (goes_on _ _ _ c.in_ok-place.was c.ok_or.ensures.ok_part ∙ c.cell_below.ensures) _
