@@ -14,7 +14,7 @@ pub struct Rectangle {
 }
 
 // Whether some lines, or columns, from a first one on are at least one, and end inside. By `&`, here and below: a window asks this at each
-// call, and with `&&` the compiler leaves the question in a loop over its cells, which then takes two to three times as long.
+// call, and with `&&` the compiler leaves the question in a loop over its cells, which then takes about twice the instructions.
 fn part_of(all: u16, first: u16, count: u16) -> bool
     ensures { result ≡ part_of all first count }
 {
